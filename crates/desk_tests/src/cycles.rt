@@ -1,4 +1,4 @@
-//! Cycles, and trials of them.
+//! Cycles, trials of them, and withdrawals.
 ghost use Rattle.std.specs.Prelude.{◌≡◌, ◌<◌, IfOk, IsTrue};
 ghost use Rattle.verb_core.specs.declared.conf.House.{House};
 ghost use Rattle.repair_desk.specs.Repairs.{are_known};
@@ -10,7 +10,7 @@ use std::marker::Brand;
 use std::sync::ledger::{Blank, Ledger};
 use std::test::Fail;
 use std::thread::Threads;
-use time_desk::{CycleFault, Desk};
+use time_desk::{CycleFault, Desk, WithdrawFault};
 use undo_base::{Name, Numbers};
 use undo_outside::{Gate, MemDisk, OpenGate};
 use verb_bytes::{Acts, CycleAsk, Replaces};
@@ -148,4 +148,48 @@ pub(crate) fn tried<R: Threads + Sync>(
 ) -> Result<Result<u32, CycleFault>, Fail> {
     let ask = ask(alloc, "-", 0, drops)?;
     Ok(number_of(desk.try_cycle(rt, alloc, NOW, &ask, &OpenGate)))
+}
+
+/// The number of the withdrawal that is told, or why there is none.
+fn number_back(told: Result<Report, WithdrawFault>) -> Result<u32, WithdrawFault> {
+    match told {
+        Ok(report) => {
+            let number = report.cycle;
+            drop(report);
+            Ok(number)
+        }
+        Err(fault) => Err(fault),
+    }
+}
+
+fn withdrawn_by<R: Threads + Sync, G: Gate, L: Ledger>(
+    rt: &R,
+    alloc: Global,
+    desk: &mut Desk<MemDisk>,
+    key: &Name,
+    of: u32,
+    gate: &G,
+    blank: Blank,
+) -> Result<u32, WithdrawFault>
+    requires name { blank.name ≡ L.name }
+    requires parts { blank.parts ≡ L.parts }
+    requires some { 0 < blank.parts }
+{
+    let mut steps: Steps<L> = Steps::new(blank);
+    number_back(desk.withdraw(rt, alloc, NOW, key, of, gate, &mut steps))
+}
+
+/// Takes the cycle of a number back, by workers who pass a gate, and tells the number of the withdrawal.
+pub(crate) fn withdrawn_past<R: Threads + Sync, G: Gate>(
+    rt: &R,
+    alloc: Global,
+    desk: &mut Desk<MemDisk>,
+    key: &str,
+    of: u32,
+    gate: &G,
+) -> Result<Result<u32, WithdrawFault>, Fail> {
+    let key = Name::read(alloc, key.as_bytes())?;
+    let told = withdrawn_by::<R, G, Brand>(rt, alloc, desk, &key, of, gate, Blank::new(1));
+    drop(key);
+    Ok(told)
 }

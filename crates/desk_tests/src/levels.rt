@@ -1,15 +1,15 @@
-//! Tests of which items a cycle's workers pass the gate for, and that two of one level are worked out side by side.
+//! Tests of which items a cycle's workers, and a withdrawal's, pass the gate for, and that two of one level are worked out side by side.
 ghost use Rattle.std.specs.Prelude.{◌<◌};
 
 use crate::asks::mailed_to;
-use crate::cycles::{cycled_past, inserted_past, tried_past};
+use crate::cycles::{cycled_past, inserted_past, tried_past, withdrawn_past};
 use crate::desks::{BEGUN, BEGUN_LATE, started};
 use crate::gates::{Holding, Noting};
 use std::alloc::Global;
 use std::test::Fail;
 use std::thread::Threads;
 use time_desk::Desk;
-use undo_outside::MemDisk;
+use undo_outside::{MemDisk, OpenGate};
 
 /// Hands a desk a mail to ann for each number from the first on and below the end, but one to bob for the last.
 fn fill(alloc: Global, desk: &mut Desk<MemDisk>, first: u32, end: u32) -> Result<bool, Fail> {
@@ -168,6 +168,28 @@ fn passes_late<R: Threads + Sync>(
 fn sixty_items_across_number_1000_pass_the_gate(rt: HostRuntime) -> Result<(), Fail> {
     let mut desk = started(rt.alloc(), BEGUN_LATE, &[])?;
     let passes = passes_late(&rt, rt.alloc(), &mut desk);
+    drop(desk.into_disk());
+    assert!(rt; passes?);
+    Ok(())
+}
+
+/// Whether the withdrawal of a cycle that goes back behind the second mail lets the two behind it pass, and no other item.
+fn passes_back<R: Threads + Sync>(
+    rt: &R,
+    alloc: Global,
+    desk: &mut Desk<MemDisk>,
+) -> Result<bool, Fail> {
+    let filled = fill(alloc, desk, 2, 6)?;
+    let cycled = cycled_past(rt, alloc, desk, "one", 3, &OpenGate)? == Ok(6);
+    let gate = Noting::below(alloc, 8)?;
+    let withdrawn = withdrawn_past(rt, alloc, desk, "two", 6, &gate)?;
+    Ok(filled && cycled && withdrawn == Ok(7) && gate.passed_within(4, 6))
+}
+
+#[test]
+fn items_that_come_back_pass_the_gate(rt: HostRuntime) -> Result<(), Fail> {
+    let mut desk = started(rt.alloc(), BEGUN, &[])?;
+    let passes = passes_back(&rt, rt.alloc(), &mut desk);
     drop(desk.into_disk());
     assert!(rt; passes?);
     Ok(())

@@ -1,10 +1,10 @@
 -- What a journal's records leave has a store in the ranges of records.
-use Rattle.std.proofs.Common.{◌≡◌, ℕ, zero, suc, ◌+◌, ◌<◌, ◌≤◌, Bool, true, false, cond, not, ◌&&◌, ◌==◌, List, [], ◌∷◌, ◌++◌, length, map, take, drop, Option, None, Some, is_some, nat_le, nat_lt, refl, sym, ap, ◌∙◌, subst, arith, eqb-true, leb-true, ltb-true, length-append}
+use Rattle.std.proofs.Common.{◌≡◌, ℕ, zero, suc, ◌+◌, ◌-◌, ◌<◌, ◌≤◌, Bool, true, false, cond, not, ◌&&◌, ◌==◌, List, [], ◌∷◌, ◌++◌, length, map, take, drop, Option, None, Some, is_some, nat_le, nat_lt, refl, sym, ap, ◌∙◌, subst, arith, eqb-true, leb-true, ltb-true, length-append}
 use Rattle.std.specs.Cmp.{first_so, second_so}
 use Rattle.std.specs.List.{AllByRecursion, list_all}
 use Rattle.std.specs.Option.{option_and_then}
 use Rattle.std.proofs.lemmas.Bool.{and_parts}
-use Rattle.std.proofs.lemmas.List.{length-map, take-append-drop}
+use Rattle.std.proofs.lemmas.List.{length-drop, length-map, take-append-drop}
 use Rattle.std.proofs.lemmas.List.Folds.{list_all-append}
 use Rattle.undo_base.specs.declared.keys.User.{User}
 use Rattle.undo_base.specs.Name.{IsName}
@@ -20,21 +20,25 @@ use Rattle.verb_core.specs.Step.{run}
 use Rattle.verb_core.specs.Store.{is_house}
 use Rattle.verb_bytes.specs.declared.journal.CycleAsk.{CycleAsk}
 use Rattle.verb_bytes.specs.declared.journal.JournalRecord.{JournalRecord}
-use Rattle.verb_bytes.specs.declared.journal.JournalRecord.TheVariants.{Format, Verb, Operator, Cycle, Snapshot, Upgrade}
+use Rattle.verb_bytes.specs.declared.journal.JournalRecord.TheVariants.{Format, Verb, Operator, Cycle, Snapshot, Upgrade, Withdraw}
 use Rattle.verb_bytes.specs.Fields.{Field, are_in_range, deed_kind, name_field}
 use Rattle.verb_bytes.specs.Fields as fields
 use Rattle.verb_bytes.specs.Spelling.{deed_fields}
 use Rattle.verb_bytes.proofs.Forms.{deed_ranged, no_rev}
-use Rattle.store_kept.specs.Kept.{Kept, new_desk, passed, performed, snapshotted, store_of, upgraded}
+use Rattle.withdraw.specs.declared.undone.UndoneBehind.{UndoneBehind}
+use Rattle.withdraw.specs.Unediting.{as_shown, shown_among, showing}
+use Rattle.store_kept.specs.Kept.{Kept, new_desk, passed, performed, snapshotted, store_of, undone_as, undone_of, upgraded}
 use Rattle.paradox.specs.Letters.{notices}
 use Rattle.paradox.specs.declared.reports.BrokenItem.{BrokenItem}
 use Rattle.paradox.specs.declared.reports.Report.{Report}
 use Rattle.store_kept.specs.Kept.{report_of}
 use Rattle.paradox.specs.Answers.{broken}
 use Rattle.repair_desk.specs.Repairs.{inserted, is_dropped, kept, new_timeline, position, repaired, replaced_by, takes_text, text_asked}
-use Rattle.cycle_rules.specs.Asking.{NoNumbers, Rewinds, after_cycle, cycle_due, due_anew, due_at, due_by}
-use Rattle.cycle_rules.specs.Cycles.{compared_at, cycled_at, front_of, kept_at, leaves_numbers, notice_items, repaired_items, told_at}
-use Rattle.mail_cycle.specs.Comparing.{broken_by}
+use Rattle.repair_desk.proofs.Points.{within}
+use Rattle.cycle_rules.specs.Asking.{NoNumbers, Rewinds, after_cycle, after_repair, cycle_due, due_anew, due_at, due_by, undone_at}
+use Rattle.cycle_rules.specs.Cycles.{cycled_at, leaves_numbers, repair_of}
+use Rattle.cycle_rules.specs.Repairing.{Repair, broken_in, compared_in, front_in, kept_in, leaves_numbers_for, notice_items, reworked, told_in}
+use Rattle.cycle_rules.specs.Withdrawals.{after_withdrawal, restored_items, unedit_of, withdraw_due, withdraw_due_at, withdrawn_at}
 use Rattle.cycle_rules.specs.Judging.{shown_after, shown_by}
 use Rattle.mail_cycle.proofs.Cycled.{few_notices, length_shown}
 use Rattle.desk_journal.proofs.Entering.{item_runs}
@@ -45,6 +49,17 @@ use Rattle.dialog_laws.proofs.Lists.{all_filtered, all_joined, all_mapped, eithe
 use Rattle.dialog_laws.proofs.Naming.{name_of_test}
 use Rattle.dialog_laws.proofs.Steps.{few_users, opening_length, opening_stored, run_stored}
 
+-- what holds of what a cycle left to be withdrawn, where so many items are in force and this is the next number: no more items stood
+-- before the cycle than numbers were drawn by then, and no more came behind it than numbers were drawn since
+record ComesGood (count next : ℕ) (last : UndoneBehind) : Type 0 where
+  keeping : AllByRecursion IsKeeping last.later
+  before : last.position + length last.later ≤ last.cycle
+  since : last.cycle + (count - last.placed) ≤ next
+
+abbrev ComesGoodIf : ℕ → ℕ → Option UndoneBehind → Type 0
+ComesGoodIf count next None = Unit {0}
+ComesGoodIf count next (Some last) = ComesGood count next last
+
 -- what holds of whatever a journal's records leave
 record IsGood (k : Kept) : Type 0 where
   stored : IsStored k.base
@@ -54,6 +69,7 @@ record IsGood (k : Kept) : Type 0 where
   keeping : AllByRecursion IsKeeping k.timeline
   few : length k.timeline ≤ k.next
   next : k.next ≤ 4194304
+  undone : ComesGoodIf (length k.timeline) k.next k.undone
 
 good_stored : (k : Kept) → IsGood k → IsStored (store_of k)
 good_stored k g = subst IsStored (sym g.runs) (run_stored k.base k.timeline g.stored (omega (arith, g.rows, g.few, g.next)) g.keeping)
@@ -108,6 +124,11 @@ follows k i e =
       few = leb-true (length (keys_in i.deed)) 65536 (second_so _ (nat_le (length (keys_in i.deed)) 65536) (first_so _ (has_form i.deed i.shown) p.1));
     }
 
+-- one more item, and one more number
+comes_more : (few many next : ℕ) (o : Option UndoneBehind) → many ≤ few + 1 → ComesGoodIf few next o → ComesGoodIf many (next + 1) o
+comes_more few many next None le good = tt
+comes_more few many next (Some last) le good = record { keeping = good.keeping; before = good.before; since = omega (arith, le, good.since) }
+
 good_performed : (k : Kept) (i : Item) → IsGood k → Follows k i → i.rev ≡ 0 → MakesNames i → IsGood (performed k i)
 good_performed k i g f rev names =
     let number : i.number ≡ k.next = f.number in
@@ -124,7 +145,28 @@ good_performed k i g f rev names =
       keeping = all_joined IsKeeping k.timeline (i ∷ []) g.keeping (record { number = omega (arith, number, left); rev = omega (arith, rev); few = f.few; names = names }, tt);
       few = whole;
       next = next;
+      undone = comes_more (length k.timeline) (length (k.timeline ++ i ∷ [])) k.next k.undone (omega (arith, long)) g.undone;
     }
+
+-- ---- parts of a timeline
+
+all_taken : (n : ℕ) (xs : List Item) → AllByRecursion IsKeeping xs → AllByRecursion IsKeeping (take n xs)
+all_taken zero [] k = tt
+all_taken zero (x ∷ xs) k = tt
+all_taken (suc n) [] k = tt
+all_taken (suc n) (x ∷ xs) k = (k.0, all_taken n xs k.1)
+
+all_dropped : (n : ℕ) (xs : List Item) → AllByRecursion IsKeeping xs → AllByRecursion IsKeeping (drop n xs)
+all_dropped zero [] k = tt
+all_dropped zero (x ∷ xs) k = k
+all_dropped (suc n) [] k = tt
+all_dropped (suc n) (x ∷ xs) k = all_dropped n xs k.1
+
+taken_few : (n : ℕ) (xs : List Item) → length (take n xs) ≤ n
+taken_few zero [] = omega arith
+taken_few zero (x ∷ xs) = omega arith
+taken_few (suc n) [] = omega arith
+taken_few (suc n) (x ∷ xs) = let rest : length (take n xs) ≤ n = taken_few n xs in omega (arith, rest)
 
 -- ---- a cycle
 
@@ -206,18 +248,6 @@ repaired_keeping t ask c at place le room h =
     (all_joined IsKeeping (take place t) (inserted c at ask.inserts) (all_taken place t h) (inserted_keeping c at ask.inserts room))
     (all_mapped IsKeeping IsKeeping (repaired ask c) (λ i k. replaced_keeping c i (text_asked ask.replaces i.number) le k) (kept ask (drop place t))
     (all_filtered IsKeeping (λ (i : Item). not (is_dropped ask i)) (drop place t) (all_dropped place t h)))
-  where
-    all_taken : (n : ℕ) (xs : List Item) → AllByRecursion IsKeeping xs → AllByRecursion IsKeeping (take n xs)
-    all_taken zero [] k = tt
-    all_taken zero (x ∷ xs) k = tt
-    all_taken (suc n) [] k = tt
-    all_taken (suc n) (x ∷ xs) k = (k.0, all_taken n xs k.1)
-
-    all_dropped : (n : ℕ) (xs : List Item) → AllByRecursion IsKeeping xs → AllByRecursion IsKeeping (drop n xs)
-    all_dropped zero [] k = tt
-    all_dropped zero (x ∷ xs) k = k
-    all_dropped (suc n) [] k = tt
-    all_dropped (suc n) (x ∷ xs) k = all_dropped n xs k.1
 
 length_repaired : (t : List Item) (ask : CycleAsk) (c at place : ℕ) → length (new_timeline t ask c at place) ≤ length t + length ask.inserts
 length_repaired t ask c at place =
@@ -241,46 +271,119 @@ after_keeping front [] now h = tt
 after_keeping zero (i ∷ is) now h = (shown_keeping i now h.0, after_keeping zero is (drop 1 now) h.1)
 after_keeping (suc front) (i ∷ is) now h = (h.0, after_keeping front is now h.1)
 
-good_cycled : (k : Kept) (ask : CycleAsk) (at place : ℕ) → IsGood k → leaves_numbers k ask ≡ true → IsGood (after_cycle k ask (cycled_at k at ask place))
-good_cycled k ask at place g leaves =
-    let room : k.next + 1 + length ask.inserts + length k.house.accounts ≤ 4194303 = leb-true (k.next + 1 + length ask.inserts + length k.house.accounts) 4194303 leaves in
-    let list : List BrokenItem = broken_by k ask place (compared_at k at ask place) in
+-- what a repair leaves, of items that keep a store so and are no more than the numbers drawn and the acts that come in
+good_reworked : (k : Kept) (at : ℕ) (key : List ℕ) (repair : Repair) (undone : Option UndoneBehind) → IsGood k → leaves_numbers_for k repair.acts ≡ true
+    → AllByRecursion IsKeeping repair.items → length repair.items ≤ k.next + repair.acts
+    → ((told : ℕ) → ComesGoodIf (length repair.items + told) (k.next + 1 + repair.acts + told) undone) → IsGood (after_repair k key (reworked k at repair) undone)
+good_reworked k at key repair undone g leaves keeping many comes =
+    let room : k.next + 1 + repair.acts + length k.house.accounts ≤ 4194303 = leb-true (k.next + 1 + repair.acts + length k.house.accounts) 4194303 leaves in
+    let list : List BrokenItem = broken_in k repair in
     let ns : List (User × List ℕ) = notices k.house k.next at list in
-    let many : length ns ≤ length k.house.accounts = few_notices k.house k.next at list in
-    let told : length (told_at k at ask place) ≡ length ns = length_told (k.next + length ask.inserts) at ns in
-    let items : List Item = repaired_items k at ask place in
-    let shown : length (kept_at k at ask place) ≡ length items = length_shown (front_of ask place) items (compared_at k at ask place) in
-    let repairs : length items ≤ length k.timeline + length ask.inserts = length_repaired k.timeline ask k.next at place in
-    let long : length (kept_at k at ask place ++ told_at k at ask place) ≡ length (kept_at k at ask place) + length (told_at k at ask place) = length-append (kept_at k at ask place) (told_at k at ask place) in
-    let few : length k.timeline ≤ k.next = g.few in
-    let whole : length (kept_at k at ask place ++ told_at k at ask place) ≤ k.next + 1 + length ask.inserts + length (told_at k at ask place) = omega (arith, told, shown, repairs, long, few) in
-    let next : k.next + 1 + length ask.inserts + length (told_at k at ask place) ≤ 4194304 = omega (arith, told, many, room) in
+    let users : length ns ≤ length k.house.accounts = few_notices k.house k.next at list in
+    let told : length (told_in k at repair) ≡ length ns = length_told (k.next + repair.acts) at ns in
+    let shown : length (kept_in k repair) ≡ length repair.items = length_shown (front_in repair) repair.items (compared_in k repair) in
+    let long : length (kept_in k repair ++ told_in k at repair) ≡ length (kept_in k repair) + length (told_in k at repair) = length-append (kept_in k repair) (told_in k at repair) in
+    let count : length repair.items + length (told_in k at repair) ≡ length (kept_in k repair ++ told_in k at repair) = omega (arith, shown, long) in
+    let whole : length (kept_in k repair ++ told_in k at repair) ≤ k.next + 1 + repair.acts + length (told_in k at repair) = omega (arith, many, count) in
+    let next : k.next + 1 + repair.acts + length (told_in k at repair) ≤ 4194304 = omega (arith, told, users, room) in
     record {
       stored = g.stored;
       rows = g.rows;
       accounts = g.accounts;
       runs = refl;
-      keeping = all_joined IsKeeping (kept_at k at ask place) (told_at k at ask place)
-          (after_keeping (front_of ask place) items (compared_at k at ask place) (repaired_keeping k.timeline ask k.next at place g.next (omega (arith, room)) g.keeping))
-          (told_keeping (k.next + length ask.inserts) at ns (omega (arith, room, many)));
+      keeping = all_joined IsKeeping (kept_in k repair) (told_in k at repair) (after_keeping (front_in repair) repair.items (compared_in k repair) keeping)
+          (told_keeping (k.next + repair.acts) at ns (omega (arith, room, users)));
       few = whole;
       next = next;
+      undone = subst (λ (n : ℕ). ComesGoodIf n (k.next + 1 + repair.acts + length (told_in k at repair)) undone) count (comes (length (told_in k at repair)));
     }
+
+drawn_since : (next items acts told : ℕ) → next + (items + told - items) ≤ next + 1 + acts + told
+drawn_since next items acts told = omega arith
+
+good_cycled : (k : Kept) (ask : CycleAsk) (at place : ℕ) → IsGood k → place ≤ length k.timeline → leaves_numbers k ask ≡ true → IsGood (after_cycle k ask (cycled_at k at ask place))
+good_cycled k ask at place g le leaves =
+    let room : k.next + 1 + length ask.inserts + length k.house.accounts ≤ 4194303 = leb-true (k.next + 1 + length ask.inserts + length k.house.accounts) 4194303 leaves in
+    let repairs : length (new_timeline k.timeline ask k.next at place) ≤ length k.timeline + length ask.inserts = length_repaired k.timeline ask k.next at place in
+    let few : length k.timeline ≤ k.next = g.few in
+    let later : length (drop place k.timeline) ≡ length k.timeline - place = length-drop place k.timeline in
+    let before : place + length (drop place k.timeline) ≤ k.next = omega (arith, later, le, few) in
+    let items : List Item = new_timeline k.timeline ask k.next at place in
+    good_reworked k at ask.key (repair_of k at ask place) (Some (undone_at k ask place (length items))) g leaves
+    (repaired_keeping k.timeline ask k.next at place g.next (omega (arith, room)) g.keeping) (omega (arith, repairs, few))
+    (λ told. record { keeping = all_dropped place k.timeline g.keeping; before = before; since = drawn_since k.next (length items) (length ask.inserts) told })
+
+-- ---- a withdrawal
+
+showing_keeping : (i : Item) (o : Option Shown) → IsKeeping i → IsKeeping (showing i o)
+showing_keeping i None h = h
+showing_keeping i (Some shown) h = record { number = h.number; rev = h.rev; few = h.few; names = h.names }
+
+restored_keeping : (k : Kept) (last : UndoneBehind) → AllByRecursion IsKeeping k.timeline → AllByRecursion IsKeeping last.later → AllByRecursion IsKeeping (restored_items k last)
+restored_keeping k last h back =
+    let present : List Item = drop last.position k.timeline in
+    let front : List Item = take last.position k.timeline in
+    let later : List Item = map (as_shown present) last.later in
+    all_joined IsKeeping (front ++ later) (drop last.placed k.timeline)
+    (all_joined IsKeeping front later (all_taken last.position k.timeline h)
+    (all_mapped IsKeeping IsKeeping (as_shown present) (λ i keeps. showing_keeping i (shown_among present i.number) keeps) last.later back))
+    (all_dropped last.placed k.timeline h)
+
+length_restored : (k : Kept) (last : UndoneBehind) → length (restored_items k last) ≤ last.position + length last.later + (length k.timeline - last.placed)
+length_restored k last =
+    let front : List Item = take last.position k.timeline in
+    let later : List Item = map (as_shown (drop last.position k.timeline)) last.later in
+    let rest : List Item = drop last.placed k.timeline in
+    let a : length ((front ++ later) ++ rest) ≡ length (front ++ later) + length rest = length-append (front ++ later) rest in
+    let b : length (front ++ later) ≡ length front + length later = length-append front later in
+    let d : length front ≤ last.position = taken_few last.position k.timeline in
+    let e : length later ≡ length last.later = length-map last.later (as_shown (drop last.position k.timeline)) in
+    let f : length rest ≡ length k.timeline - last.placed = length-drop last.placed k.timeline in
+    omega (arith, a, b, d, e, f)
+
+good_withdrawn : (k : Kept) (at : ℕ) (key : List ℕ) (last : UndoneBehind) → IsGood k → ComesGood (length k.timeline) k.next last → leaves_numbers_for k 0 ≡ true → IsGood (after_withdrawal k key (withdrawn_at k at last))
+good_withdrawn k at key last g comes leaves =
+    let many : length (restored_items k last) ≤ last.position + length last.later + (length k.timeline - last.placed) = length_restored k last in
+    let before : last.position + length last.later ≤ last.cycle = comes.before in
+    let since : last.cycle + (length k.timeline - last.placed) ≤ k.next = comes.since in
+    good_reworked k at key (unedit_of k last) None g leaves (restored_keeping k last g.keeping comes.keeping) (omega (arith, many, before, since)) (λ told. tt)
 
 none_is : (k : Kept) → ◌≡◌ {A = Option Kept} None (Some k) → ⊥
 none_is k e = cc
 
-at_place : (k : Kept) (at : ℕ) (ask : CycleAsk) (o : Option ℕ) (new : Kept) → IsGood k → after_due k ask (due_at k at ask o) ≡ Some new → IsGood new
-at_place k at ask None new g e = absurd (none_is new e)
-at_place k at ask (Some place) new g e = by (leaves_numbers k ask) refl e
+at_place : (k : Kept) (at : ℕ) (ask : CycleAsk) (o : Option ℕ) (new : Kept) → IsGood k → position k.timeline ask.point ≡ o → after_due (after_cycle k ask) (due_at k at ask o) ≡ Some new → IsGood new
+at_place k at ask None new g found e = absurd (none_is new e)
+at_place k at ask (Some place) new g found e = by (leaves_numbers k ask) refl e
   where
-    by : (b : Bool) → leaves_numbers k ask ≡ b → after_due k ask (cond b (Rewinds (cycled_at k at ask place)) NoNumbers) ≡ Some new → IsGood new
-    by true is same = subst IsGood (one_some (after_cycle k ask (cycled_at k at ask place)) new same) (good_cycled k ask at place g is)
+    by : (b : Bool) → leaves_numbers k ask ≡ b → after_due (after_cycle k ask) (cond b (Rewinds (cycled_at k at ask place)) NoNumbers) ≡ Some new → IsGood new
+    by true is same = subst IsGood (one_some (after_cycle k ask (cycled_at k at ask place)) new same) (good_cycled k ask at place g (within k.timeline ask.point place found) is)
     by false is same = absurd (none_is new same)
 
-due_good : (k : Kept) (at : ℕ) (ask : CycleAsk) (o : Option Report) (new : Kept) → IsGood k → after_due k ask (due_by o (due_anew k at ask)) ≡ Some new → IsGood new
-due_good k at ask None new g e = at_place k at ask (position k.timeline ask.point) new g e
+due_good : (k : Kept) (at : ℕ) (ask : CycleAsk) (o : Option Report) (new : Kept) → IsGood k → after_due (after_cycle k ask) (due_by o (due_anew k at ask)) ≡ Some new → IsGood new
+due_good k at ask None new g e = at_place k at ask (position k.timeline ask.point) new g refl e
 due_good k at ask (Some report) new g e = absurd (none_is new e)
+
+-- what the cycle of a number left is what the last one left
+last_good : (count next of : ℕ) (o : Option UndoneBehind) (last : UndoneBehind) → ComesGoodIf count next o → option_and_then (undone_as of) o ≡ Some last → ComesGood count next last
+last_good count next of None last good e = absurd (cc e)
+last_good count next of (Some one) last good e = by (one.cycle == of) e
+  where
+    by : (b : Bool) → cond b (Some one) None ≡ Some last → ComesGood count next last
+    by true same = subst (ComesGood count next) (let is : one ≡ last = cc same in is) good
+    by false same = absurd (cc same)
+
+at_last : (k : Kept) (at of : ℕ) (key : List ℕ) (o : Option UndoneBehind) (new : Kept) → IsGood k → undone_of k of ≡ o → after_due (after_withdrawal k key) (withdraw_due_at k at o) ≡ Some new → IsGood new
+at_last k at of key None new g found e = absurd (none_is new e)
+at_last k at of key (Some last) new g found e = by (leaves_numbers_for k 0) refl e
+  where
+    by : (b : Bool) → leaves_numbers_for k 0 ≡ b → after_due (after_withdrawal k key) (cond b (Rewinds (withdrawn_at k at last)) NoNumbers) ≡ Some new → IsGood new
+    by true is same =
+        subst IsGood (one_some (after_withdrawal k key (withdrawn_at k at last)) new same) (good_withdrawn k at key last g (last_good (length k.timeline) k.next of k.undone last g.undone found) is)
+    by false is same = absurd (none_is new same)
+
+taken_back_good : (k : Kept) (at of : ℕ) (key : List ℕ) (o : Option Report) (new : Kept) → IsGood k → after_due (after_withdrawal k key) (due_by o (withdraw_due_at k at (undone_of k of))) ≡ Some new → IsGood new
+taken_back_good k at of key None new g e = at_last k at of key (undone_of k of) new g refl e
+taken_back_good k at of key (Some report) new g e = absurd (none_is new e)
 
 -- ---- one record, and all
 
@@ -295,16 +398,19 @@ record_good k (Operator number at act) new g e =
     let p = and_parts (is_spelled (Operator number at act)) (can_follow k i) s.0 in
     subst IsGood s.1 (good_performed k i g (follows k i p.1) refl tt)
 record_good k (Cycle number at ask) new g e =
-    due_good k at ask (report_of k.reports ask.key) new g (some_where (is_spelled (Cycle number at ask) && can_rewind k number ask) (after_due k ask (cycle_due k at ask)) new e).1
+    due_good k at ask (report_of k.reports ask.key) new g (some_where (is_spelled (Cycle number at ask) && can_rewind k number ask) (after_due (after_cycle k ask) (cycle_due k at ask)) new e).1
 record_good k (Snapshot items conf rows) new g e =
     let s = some_when (is_spelled (Snapshot items conf rows) && can_keep k items conf rows) (after_kept k (Snapshot items conf rows)) new e in
     subst IsGood s.1
     (either IsGood (is_true k (Snapshot items conf rows)) (snapshotted k) (record k { marks = passed k.marks })
-    (record { stored = g.stored; rows = g.rows; accounts = g.accounts; runs = g.runs; keeping = g.keeping; few = g.few; next = g.next })
-    (record { stored = g.stored; rows = g.rows; accounts = g.accounts; runs = g.runs; keeping = g.keeping; few = g.few; next = g.next }))
+    (record { stored = g.stored; rows = g.rows; accounts = g.accounts; runs = g.runs; keeping = g.keeping; few = g.few; next = g.next; undone = g.undone })
+    (record { stored = g.stored; rows = g.rows; accounts = g.accounts; runs = g.runs; keeping = g.keeping; few = g.few; next = g.next; undone = g.undone }))
 record_good k (Upgrade at) new g e =
     let s = some_when (is_spelled (Upgrade at) && not k.deep) (upgraded k) new e in
-    subst IsGood s.1 (record { stored = g.stored; rows = g.rows; accounts = g.accounts; runs = g.runs; keeping = g.keeping; few = g.few; next = g.next })
+    subst IsGood s.1 (record { stored = g.stored; rows = g.rows; accounts = g.accounts; runs = g.runs; keeping = g.keeping; few = g.few; next = g.next; undone = g.undone })
+record_good k (Withdraw number at key of) new g e =
+    taken_back_good k at of key (report_of k.reports key) new g
+    (some_where (is_spelled (Withdraw number at key of) && (number == k.next)) (after_due (after_withdrawal k key) (withdraw_due k at key of)) new e).1
 record_good k _ new g e = absurd (none_is new e)
 
 records_good : (k : Kept) (rs : List JournalRecord) (new : Kept) → IsGood k → after_records k rs ≡ Some new → IsGood new
@@ -329,6 +435,7 @@ first_good (Format house conf) new e =
       keeping = tt;
       few = omega arith;
       next = omega (arith, first);
+      undone = tt;
     })
 first_good _ new e = absurd (none_is new e)
 

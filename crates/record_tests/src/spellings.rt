@@ -1,4 +1,4 @@
-//! Records of a cycle, of snapshots, of a filter's scope and of an upgrade, byte for byte.
+//! Records of a cycle, of a withdrawal, of snapshots, of a filter's scope and of an upgrade, byte for byte.
 
 use std::alloc::Global;
 use std::test::Fail;
@@ -46,6 +46,12 @@ const OF_RECIPIENTS: &[u8] =
 const UPGRADE: &[u8] = b"\x05\x00\x00\x00\x00\x41\xde\x5d\xa0";
 
 const UPGRADE_FIELDS: &[usize] = &[0, 1];
+
+/// Number 9 at that moment, by the key w1: the cycle 7 is withdrawn.
+const WITHDRAWAL: &[u8] =
+    b"\x07\x00\x00\x00\x09\x00\x00\x00\x00\x41\xde\x5d\xa0\x02w1\x00\x00\x00\x07";
+
+const WITHDRAWAL_FIELDS: &[usize] = &[0, 1, 5, 13, 16];
 
 /// Number 7 at moment 1105092000: user 0 adds Seen to the message 2 of in, which is shown done for none.
 const STORED: &[u8] =
@@ -96,6 +102,7 @@ fn what_is_read_is_written_so(rt: HostRuntime) -> Result<(), Fail> {
         OF_SENDERS,
         OF_RECIPIENTS,
         UPGRADE,
+        WITHDRAWAL,
     ];
     for payload in table {
         assert!(rt; is_written_again(rt.alloc(), payload)?);
@@ -141,6 +148,7 @@ fn each_front_is_refused_at_the_field_that_is_cut(rt: HostRuntime) {
         (SCOPED, SCOPED_FIELDS),
         (SET, SET_FIELDS),
         (UPGRADE, UPGRADE_FIELDS),
+        (WITHDRAWAL, WITHDRAWAL_FIELDS),
         (STORED, STORED_FIELDS),
         (FETCHED, FETCHED_FIELDS),
         (RENAMED, RENAMED_FIELDS),
@@ -172,7 +180,7 @@ fn place_changed(
 
 // Each kind of field that is out of its range: a moment, a key, a text and an act; a kind of record, an option, a user, a
 // name, flags and a moment; a scope and the name of a field, an act of no other scope, a list of filters of the whole text alone, and the
-// moment of an upgrade; who acted, a deed, how flags change, flags and what was shown; a bool; how a RENAME went.
+// moments of an upgrade and a withdrawal, with the latter's key; who acted, a deed, how flags change, flags and what was shown; a bool; how a RENAME went.
 #[test]
 fn a_field_out_of_its_range_is_refused_at_its_start(rt: HostRuntime) -> Result<(), Fail> {
     let table = [
@@ -182,7 +190,7 @@ fn a_field_out_of_its_range_is_refused_at_its_start(rt: HostRuntime) -> Result<(
         (CYCLE, 35, 1, 35),
         (CYCLE, 45, 0, 45),
         (CYCLE, 45, 8, 45),
-        (SNAPSHOT, 0, 7, 0),
+        (SNAPSHOT, 0, 8, 0),
         (SNAPSHOT, 21, 2, 21),
         (SNAPSHOT, 26, 200, 26),
         (SNAPSHOT, 27, 0, 27),
@@ -195,6 +203,8 @@ fn a_field_out_of_its_range_is_refused_at_its_start(rt: HostRuntime) -> Result<(
         (SET, 24, 0, 24),
         (UNSCOPED, 0, 6, 9),
         (UPGRADE, 1, 1, 1),
+        (WITHDRAWAL, 5, 1, 5),
+        (WITHDRAWAL, 14, 0x7f, 13),
         (STORED, 13, 200, 13),
         (STORED, 14, 0, 14),
         (STORED, 14, 14, 14),

@@ -39,7 +39,7 @@ fn item(alloc: Global, number: u32, by: Option<User>, deed: Deed) -> StoredItem 
 }
 
 /// Two mails, each with a LIST of ann's behind it.
-fn timeline(alloc: Global) -> Result<StoredItems, Fail> {
+pub(crate) fn timeline(alloc: Global) -> Result<StoredItems, Fail> {
     let mut items = StoredItems::new(alloc);
     items.push(item(alloc, 2, None, mail(alloc)?))?;
     items.push(item(alloc, 3, Some(User(0)), list(alloc)))?;
@@ -82,7 +82,7 @@ fn ask(alloc: Global, point: u32) -> Result<CycleAsk, Fail>
     })
 }
 
-fn edited(
+pub(crate) fn edited(
     alloc: Global,
     timeline: &StoredItems,
     point: u32,
@@ -91,7 +91,7 @@ fn edited(
     Ok(edit(alloc, timeline, &ask, 8, AT))
 }
 
-fn are_items(items: &StoredItems, wanted: &[(u32, u32)]) -> bool {
+pub(crate) fn are_items(items: &StoredItems, wanted: &[(u32, u32)]) -> bool {
     items.len() == wanted.len()
         && items.iter().zip(wanted).all(|(item, told)| item.item().number == told.0
             && item.item().rev == told.1)
@@ -109,7 +109,7 @@ fn has_text(item: &StoredItem, wanted: u32) -> bool {
     }
 }
 
-fn has_text_at(items: &StoredItems, place: usize, wanted: u32) -> bool {
+pub(crate) fn has_text_at(items: &StoredItems, place: usize, wanted: u32) -> bool {
     match items.get(place) {
         Some(item) => has_text(item, wanted),
         None => false,

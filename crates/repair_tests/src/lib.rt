@@ -1,4 +1,4 @@
-//! Tests of box_store, paradox, repair_desk and console_http: calls that no conversation shows are called with ample memory, and
+//! Tests of box_store, paradox, repair_desk, withdraw and console_http: calls that no conversation shows are called with ample memory, and
 //! their answers compared.
 #![tactic(auto)]
 
@@ -10,3 +10,5 @@ mod edits;
 mod requests;
 #[cfg(test)]
 mod stores;
+#[cfg(test)]
+mod withdrawals;

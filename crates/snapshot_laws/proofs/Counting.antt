@@ -10,16 +10,19 @@ use Rattle.verb_core.specs.declared.mailbox.Mailbox.{Mailbox}
 use Rattle.verb_core.specs.Deeds.{act_item}
 use Rattle.verb_bytes.specs.declared.journal.CycleAsk.{CycleAsk}
 use Rattle.verb_bytes.specs.declared.journal.JournalRecord.{JournalRecord}
-use Rattle.verb_bytes.specs.declared.journal.JournalRecord.TheVariants.{Format, Verb, Operator, Cycle, Snapshot, Upgrade}
+use Rattle.verb_bytes.specs.declared.journal.JournalRecord.TheVariants.{Format, Verb, Operator, Cycle, Snapshot, Upgrade, Withdraw}
+use Rattle.withdraw.specs.declared.undone.UndoneBehind.{UndoneBehind}
 use Rattle.store_kept.specs.Kept.{Kept, passed, performed, snapshotted}
 use Rattle.cycle_rules.specs.Asking.{after_cycle}
 use Rattle.cycle_rules.specs.Cycles.{cycled_at, told_at}
-use Rattle.desk_journal.specs.Records.{after_kept, after_record, after_records, after_snapshot, first_state, is_cycle, is_snapshot, is_true, state}
+use Rattle.cycle_rules.specs.Repairing.{told_in}
+use Rattle.cycle_rules.specs.Withdrawals.{after_withdrawal, unedit_of, withdrawn_at}
+use Rattle.desk_journal.specs.Records.{after_kept, after_record, after_records, after_snapshot, first_state, is_rewind, is_snapshot, is_true, state}
 use Rattle.desk_journal.proofs.Runs.{state_append}
 use Rattle.desk_journal.proofs.Upgrading.{upgrade_is}
-use Rattle.snapshot_laws.specs.Usable.{cycles_in, snapshots_in}
+use Rattle.snapshot_laws.specs.Usable.{rewinds_in, snapshots_in}
 use Rattle.snapshot_laws.proofs.Runs.{IsLasting, along}
-use Rattle.snapshot_laws.proofs.Steps.{IsFirst, cycled_is, is_first, kept_is, performed_is}
+use Rattle.snapshot_laws.proofs.Steps.{IsFirst, cycled_is, is_first, kept_is, performed_is, withdrawn_is}
 
 -- ---- how many records pass a test
 
@@ -60,6 +63,9 @@ taken_more done kept (Snapshot items conf rows) next is old e =
     (ap (λ (k : Kept). k.marks.taken) (sym (kept_is kept next items conf rows e).next_is) ∙ taken_kept kept (Snapshot items conf rows)) refl
 taken_more done kept (Upgrade at) next is old e =
     taken_by done (Upgrade at) kept.marks.taken next.marks.taken 0 old (ap (λ (k : Kept). k.marks.taken) (sym (upgrade_is kept next at e)) ∙ omega arith) refl
+taken_more done kept (Withdraw number at key of) next is old e =
+    taken_by done (Withdraw number at key of) kept.marks.taken next.marks.taken 0 old
+    (ap (λ (k : Kept). k.marks.taken) (sym (withdrawn_is kept next at key of number e).next_is) ∙ omega arith) refl
 taken_more done kept _ next is old e = absurd (cc e)
 
 pub taken_are : (records : List JournalRecord) (kept : Kept) → state records ≡ Some kept → IsTaken records kept
@@ -67,10 +73,11 @@ taken_are = along IsTaken taken_first taken_more
 
 -- ---- the items that entered
 
--- between two states, with so many cycles and no snapshot, as many items entered as numbers were given, but for those of the cycles
-record Counts (old new : Kept) (cycles : ℕ) : Type 0 where
+-- between two states, with so many cycles and withdrawals and no snapshot, as many items entered as numbers were given, but for those
+-- of the cycles and the withdrawals
+record Counts (old new : Kept) (rewinds : ℕ) : Type 0 where
   house : new.house ≡ old.house
-  numbers : old.next + cycles + new.marks.since ≡ new.next + old.marks.since
+  numbers : old.next + rewinds + new.marks.since ≡ new.next + old.marks.since
 
 counts_item : (kept : Kept) (item : Item) → Counts kept (performed kept item) 0
 counts_item kept item = record { house = refl; numbers = omega arith }
@@ -81,15 +88,22 @@ given next since acts notices one e = omega arith
 counts_cycle : (kept : Kept) (at : ℕ) (ask : CycleAsk) (place : ℕ) (one : ℕ) → one ≡ 1 → Counts kept (after_cycle kept ask (cycled_at kept at ask place)) one
 counts_cycle kept at ask place one e = record { house = refl; numbers = given kept.next kept.marks.since (length ask.inserts) (length (told_at kept at ask place)) one e }
 
-counts_one : (kept next : Kept) (r : JournalRecord) → after_record kept r ≡ Some next → is_snapshot r ≡ false → Counts kept next (cycles_in (r ∷ []))
+counts_withdrawal : (kept : Kept) (at : ℕ) (key : List ℕ) (last : UndoneBehind) (one : ℕ) → one ≡ 1 → Counts kept (after_withdrawal kept key (withdrawn_at kept at last)) one
+counts_withdrawal kept at key last one e = record { house = refl; numbers = given kept.next kept.marks.since 0 (length (told_in kept at (unedit_of kept last))) one e }
+
+counts_one : (kept next : Kept) (r : JournalRecord) → after_record kept r ≡ Some next → is_snapshot r ≡ false → Counts kept next (rewinds_in (r ∷ []))
 counts_one kept next (Verb item) e plain = subst (λ (k : Kept). Counts kept k 0) (performed_is kept next (Verb item) item e) (counts_item kept item)
 counts_one kept next (Operator number at act) e plain =
     subst (λ (k : Kept). Counts kept k 0) (performed_is kept next (Operator number at act) (act_item number at act) e) (counts_item kept (act_item number at act))
 counts_one kept next (Cycle number at ask) e plain =
     let cycled = cycled_is kept next at ask number e in
-    subst (λ (k : Kept). Counts kept k (cycles_in (Cycle number at ask ∷ []))) cycled.next_is (counts_cycle kept at ask cycled.place (cycles_in (Cycle number at ask ∷ [])) refl)
+    subst (λ (k : Kept). Counts kept k (rewinds_in (Cycle number at ask ∷ []))) cycled.next_is (counts_cycle kept at ask cycled.place (rewinds_in (Cycle number at ask ∷ [])) refl)
 counts_one kept next (Snapshot items conf rows) e plain = absurd (cc plain)
 counts_one kept next (Upgrade at) e plain = subst (λ (k : Kept). Counts kept k 0) (upgrade_is kept next at e) (record { house = refl; numbers = omega arith })
+counts_one kept next (Withdraw number at key of) e plain =
+    let taken = withdrawn_is kept next at key of number e in
+    subst (λ (k : Kept). Counts kept k (rewinds_in (Withdraw number at key of ∷ []))) taken.next_is
+    (counts_withdrawal kept at key taken.last (rewinds_in (Withdraw number at key of ∷ [])) refl)
 counts_one kept next _ e plain = absurd (cc e)
 
 -- no record is a snapshot, nor the first
@@ -106,31 +120,31 @@ joined old mid new a b all first second sum = record {
   numbers = (let one = first.numbers in let two = second.numbers in omega arith);
 }
 
-counts : (rs : List JournalRecord) (old new : Kept) → after_records old rs ≡ Some new → snapshots_in rs ≡ 0 → Counts old new (cycles_in rs)
+counts : (rs : List JournalRecord) (old new : Kept) → after_records old rs ≡ Some new → snapshots_in rs ≡ 0 → Counts old new (rewinds_in rs)
 counts [] old new e none = let same : old ≡ new = cc e in subst (λ (k : Kept). Counts old k 0) same (record { house = refl; numbers = omega arith })
 counts (r ∷ rs) old new e none = by (after_record old r) refl e (λ next f. counts rs next new f (no_first r rs none).1)
   where
     by : (o : Option Kept) → after_record old r ≡ o → option_and_then (λ (k : Kept). after_records k rs) o ≡ Some new
-        → ((next : Kept) → after_records next rs ≡ Some new → Counts next new (cycles_in rs)) → Counts old new (cycles_in (r ∷ rs))
+        → ((next : Kept) → after_records next rs ≡ Some new → Counts next new (rewinds_in rs)) → Counts old new (rewinds_in (r ∷ rs))
     by None f e more = absurd (cc e)
     by (Some next) f e more =
-        joined old next new (cycles_in (r ∷ [])) (cycles_in rs) (cycles_in (r ∷ rs)) (counts_one old next r f (no_first r rs none).0) (more next e) (one_first is_cycle r rs)
+        joined old next new (rewinds_in (r ∷ [])) (rewinds_in rs) (rewinds_in (r ∷ rs)) (counts_one old next r f (no_first r rs none).0) (more next e) (one_first is_rewind r rs)
 
 -- since the beginning
-pub since_first : (records : List JournalRecord) (kept : Kept) → state records ≡ Some kept → snapshots_in records ≡ 0 → kept.house.first + cycles_in records + kept.marks.since ≡ kept.next
+pub since_first : (records : List JournalRecord) (kept : Kept) → state records ≡ Some kept → snapshots_in records ≡ 0 → kept.house.first + rewinds_in records + kept.marks.since ≡ kept.next
 since_first [] kept e none = absurd (cc e)
 since_first (r ∷ rs) kept e none = by (first_state r) refl e
   where
-    from : (first : Kept) → IsFirst r first → after_records first rs ≡ Some kept → kept.house.first + cycles_in (r ∷ rs) + kept.marks.since ≡ kept.next
+    from : (first : Kept) → IsFirst r first → after_records first rs ≡ Some kept → kept.house.first + rewinds_in (r ∷ rs) + kept.marks.since ≡ kept.next
     from first is f =
         let all = counts rs first kept f (no_first r rs none).1 in
         let number : first.next ≡ kept.house.first = ap (λ (k : Kept). k.next) (sym is.kept_is) ∙ ap (λ (k : Kept). k.house.first) is.kept_is ∙ ap (λ (h : House). h.first) (sym all.house) in
         let fresh : first.marks.since ≡ 0 = ap (λ (k : Kept). k.marks.since) (sym is.kept_is) in
-        let cycles : cycles_in (r ∷ rs) ≡ cycles_in rs = ap (λ (x : JournalRecord). cycles_in (x ∷ rs)) is.record_is in
+        let cycles : rewinds_in (r ∷ rs) ≡ rewinds_in rs = ap (λ (x : JournalRecord). rewinds_in (x ∷ rs)) is.record_is in
         let sum = all.numbers in
         omega arith
 
-    by : (o : Option Kept) → first_state r ≡ o → option_and_then (λ (k : Kept). after_records k rs) o ≡ Some kept → kept.house.first + cycles_in (r ∷ rs) + kept.marks.since ≡ kept.next
+    by : (o : Option Kept) → first_state r ≡ o → option_and_then (λ (k : Kept). after_records k rs) o ≡ Some kept → kept.house.first + rewinds_in (r ∷ rs) + kept.marks.since ≡ kept.next
     by None f e = absurd (cc e)
     by (Some first) f e = from first (is_first r first f) e
 
@@ -143,7 +157,7 @@ module _ (old : Kept) (items : ℕ) (conf : Conf) (rows : List (BoxId × Mailbox
   since_kept = elim (is_true old (Snapshot items conf rows)) as (λ b. (cond b (snapshotted old) (record old { marks = passed old.marks })).marks.since ≡ 0) [ true ↦ refl | false ↦ refl ]
 
   since_by : (after : List JournalRecord) (kept : Kept) (o : Option Kept) → after_snapshot old items conf rows ≡ o → option_and_then (λ (k : Kept). after_records k after) o ≡ Some kept
-      → snapshots_in after ≡ 0 → old.next + cycles_in after + kept.marks.since ≡ kept.next
+      → snapshots_in after ≡ 0 → old.next + rewinds_in after + kept.marks.since ≡ kept.next
   since_by after kept None f e none = absurd (cc e)
   since_by after kept (Some next) f e none =
       let is = (kept_is old next items conf rows f).next_is in
@@ -153,6 +167,6 @@ module _ (old : Kept) (items : ℕ) (conf : Conf) (rows : List (BoxId × Mailbox
       omega arith
 
   pub since_snapshot : (before after : List JournalRecord) (kept : Kept) → state before ≡ Some old → state (before ++ Snapshot items conf rows ∷ after) ≡ Some kept → snapshots_in after ≡ 0
-      → old.next + cycles_in after + kept.marks.since ≡ kept.next
+      → old.next + rewinds_in after + kept.marks.since ≡ kept.next
   since_snapshot before after kept is e none =
       since_by after kept (after_snapshot old items conf rows) refl (sym (state_append before (Snapshot items conf rows ∷ after) old is) ∙ e) none

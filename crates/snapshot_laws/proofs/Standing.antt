@@ -1,5 +1,5 @@
 -- The places that are kept are those of the usable snapshots, record by record.
-use Rattle.std.proofs.Common.{◌≡◌, ◌⊎◌, inl, inr, ℕ, ◌≤◌, Bool, true, false, cond, List, [], ◌∷◌, ◌++◌, length, Option, Some, None, refl, ap, sym, subst, ◌∙◌, arith, append_assoc, length-append}
+use Rattle.std.proofs.Common.{◌≡◌, ◌⊎◌, inl, inr, ℕ, ◌≤◌, ◌==◌, Bool, true, false, cond, List, [], ◌∷◌, ◌++◌, length, Option, Some, None, option_and_then, option_map, refl, ap, sym, subst, ◌∙◌, arith, append_assoc, length-append}
 use Rattle.verb_core.specs.declared.conf.Conf.{Conf}
 use Rattle.verb_core.specs.declared.conf.House.{House}
 use Rattle.verb_core.specs.declared.item.Item.{Item}
@@ -7,16 +7,18 @@ use Rattle.verb_core.specs.declared.mailbox.BoxId.{BoxId}
 use Rattle.verb_core.specs.declared.mailbox.Mailbox.{Mailbox}
 use Rattle.verb_core.specs.Deeds.{act_item}
 use Rattle.verb_bytes.specs.declared.journal.JournalRecord.{JournalRecord}
-use Rattle.verb_bytes.specs.declared.journal.JournalRecord.TheVariants.{Verb, Operator, Cycle, Snapshot, Upgrade}
-use Rattle.store_kept.specs.Kept.{Kept, new_desk, not_behind, passed, performed, placed, snapshotted}
+use Rattle.verb_bytes.specs.declared.journal.JournalRecord.TheVariants.{Verb, Operator, Cycle, Snapshot, Upgrade, Withdraw}
+use Rattle.withdraw.specs.declared.undone.UndoneBehind.{UndoneBehind}
+use Rattle.store_kept.specs.Kept.{Kept, new_desk, not_behind, passed, performed, placed, snapshotted, undone_as}
 use Rattle.cycle_rules.specs.Cycles.{cycled_at}
+use Rattle.cycle_rules.specs.Withdrawals.{withdrawn_at}
 use Rattle.desk_journal.specs.Records.{first_state, is_true, place_rewound_to, state}
 use Rattle.desk_journal.proofs.Upgrading.{upgrade_is}
 use Rattle.snapshot_laws.specs.Usable.{GoesNoLower, IsUsable}
 use Rattle.snapshot_laws.proofs.Members.{In, Rises, placed_is, placed_itself, placed_others, rises_not_behind, rises_placed, stayed, stays}
 use Rattle.snapshot_laws.proofs.Runs.{IsLasting, along}
 use Rattle.snapshot_laws.proofs.Splits.{IsBehind, IsThere, splits_end}
-use Rattle.snapshot_laws.proofs.Steps.{cycled_is, cycled_within, is_first, kept_is, performed_is}
+use Rattle.snapshot_laws.proofs.Steps.{cycled_is, cycled_within, is_first, kept_is, performed_is, withdrawn_is, withdrawn_within}
 
 -- places rise, none is behind so many items, and they are those of the usable snapshots
 pub record StandsAt (records : List JournalRecord) (places : List ℕ) (count : ℕ) : Type 0 where
@@ -25,8 +27,27 @@ pub record StandsAt (records : List JournalRecord) (places : List ℕ) (count : 
   pub usable : (n : ℕ) → In n places → IsUsable records n
   pub there : (n : ℕ) → IsUsable records n → In n places
 
-abbrev pub Stands : List JournalRecord → Kept → Type 0
-Stands records kept = StandsAt records kept.marks.places (length kept.timeline)
+-- the point of a cycle that can be withdrawn is among so many items
+abbrev PointWithin : ℕ → Option UndoneBehind → Type 0
+PointWithin count None = Unit {0}
+PointWithin count (Some last) = last.position ≤ count
+
+point_within : (few many : ℕ) (o : Option UndoneBehind) → few ≤ many → PointWithin few o → PointWithin many o
+point_within few many None le within = tt
+point_within few many (Some last) le within = omega arith
+
+-- that of the cycle which is to be withdrawn
+last_within : (count of : ℕ) (o : Option UndoneBehind) (last : UndoneBehind) → PointWithin count o → option_and_then (undone_as of) o ≡ Some last → last.position ≤ count
+last_within count of None last within e = absurd (cc e)
+last_within count of (Some one) last within e = by (one.cycle == of) e
+  where
+    by : (b : Bool) → cond b (Some one) None ≡ Some last → last.position ≤ count
+    by true e = let same : one ≡ last = cc e in subst (λ (u : UndoneBehind). u.position ≤ count) same within
+    by false e = absurd (cc e)
+
+record Stands (records : List JournalRecord) (kept : Kept) : Type 0 where
+  marks : StandsAt records kept.marks.places (length kept.timeline)
+  undone : PointWithin (length kept.timeline) kept.undone
 
 module _ (done : List JournalRecord) (kept : Kept) (r : JournalRecord) (is : state done ≡ Some kept) where
   -- what the records leave is one
@@ -95,7 +116,7 @@ module _ (done : List JournalRecord) (kept : Kept) (r : JournalRecord) (is : sta
   goes_nowhere : {X : Type 0} (place : ℕ) → ◌≡◌ {A = Option ℕ} None (Some place) → X
   goes_nowhere place wrong = absurd (cc wrong)
 
-  module _ (stands : Stands done kept) where
+  module _ (stands : StandsAt done kept.marks.places (length kept.timeline)) where
     -- a record that goes nowhere back, and is no true snapshot
     plain : ((n : ℕ) → IsLast n → ⊥) → place_rewound_to kept r ≡ None → (count : ℕ) → length kept.timeline ≤ count → StandsAt (done ++ r ∷ []) kept.marks.places count
     plain no_last stays_there count more = record {
@@ -179,14 +200,19 @@ module _ (done : List JournalRecord) (kept : Kept) (r : JournalRecord) (is : sta
 stands_item : (done : List JournalRecord) (kept next : Kept) (r : JournalRecord) (item : Item) → state done ≡ Some kept → Stands done kept → performed kept item ≡ next
     → ((n : ℕ) (conf : Conf) (rows : List (BoxId × Mailbox)) → r ≡ Snapshot n conf rows → ⊥) → place_rewound_to kept r ≡ None → Stands (done ++ r ∷ []) next
 stands_item done kept next r item is stands same no_snapshot stays_there =
-    subst (Stands (done ++ r ∷ [])) same
-    (plain done kept r is stands (λ n last. no_snapshot n last.conf last.rows last.record_is) stays_there (length (kept.timeline ++ item ∷ [])) (omega (arith, length-append kept.timeline (item ∷ []))))
+    let more : length kept.timeline ≤ length (kept.timeline ++ item ∷ []) = omega (arith, length-append kept.timeline (item ∷ [])) in
+    subst (Stands (done ++ r ∷ [])) same (record {
+      marks = plain done kept r is stands.marks (λ n last. no_snapshot n last.conf last.rows last.record_is) stays_there (length (kept.timeline ++ item ∷ [])) more;
+      undone = point_within (length kept.timeline) (length (kept.timeline ++ item ∷ [])) kept.undone more stands.undone;
+    })
 
 stands_snapshot : (done : List JournalRecord) (kept : Kept) (items : ℕ) (conf : Conf) (rows : List (BoxId × Mailbox)) → state done ≡ Some kept → Stands done kept → items ≡ length kept.timeline
     → (b : Bool) → is_true kept (Snapshot items conf rows) ≡ b → Stands (done ++ Snapshot items conf rows ∷ []) (cond b (snapshotted kept) (record kept { marks = passed kept.marks }))
-stands_snapshot done kept items conf rows is stands many true e = taken done kept (Snapshot items conf rows) is stands items conf rows refl many e
-stands_snapshot done kept items conf rows is stands many false e =
-    plain done kept (Snapshot items conf rows) is stands (λ n last. no_last n last.conf last.rows last.record_is last.true_is) refl (length kept.timeline) (omega arith)
+stands_snapshot done kept items conf rows is stands many true e = record { marks = taken done kept (Snapshot items conf rows) is stands.marks items conf rows refl many e; undone = stands.undone }
+stands_snapshot done kept items conf rows is stands many false e = record {
+  marks = plain done kept (Snapshot items conf rows) is stands.marks (λ n last. no_last n last.conf last.rows last.record_is last.true_is) refl (length kept.timeline) (omega arith);
+  undone = stands.undone;
+}
   where
     no_last : (n : ℕ) (conf' : Conf) (rows' : List (BoxId × Mailbox)) → Snapshot items conf rows ≡ Snapshot n conf' rows' → is_true kept (Snapshot n conf' rows') ≡ true → ⊥
     no_last n conf' rows' same truth = let wrong : true ≡ false = sym truth ∙ ap (is_true kept) (sym same) ∙ e in cc wrong
@@ -199,16 +225,31 @@ stands_more done kept (Operator number at act) next is stands e =
     (λ n conf rows wrong. cc wrong) refl
 stands_more done kept (Cycle number at ask) next is stands e =
     let cycled = cycled_is kept next at ask number e in
-    subst (Stands (done ++ Cycle number at ask ∷ [])) cycled.next_is
-    (rewound_at done kept (Cycle number at ask) is stands cycled.place (length (cycled_at kept at ask cycled.place).timeline) (λ n last. let wrong : Cycle number at ask ≡ Snapshot n last.conf last.rows = last.record_is in cc wrong)
-    cycled.found (cycled_within kept at ask cycled.place cycled.found))
+    let within = cycled_within kept at ask cycled.place cycled.found in
+    subst (Stands (done ++ Cycle number at ask ∷ [])) cycled.next_is (record {
+      marks = rewound_at done kept (Cycle number at ask) is stands.marks cycled.place (length (cycled_at kept at ask cycled.place).timeline)
+          (λ n last. let wrong : Cycle number at ask ≡ Snapshot n last.conf last.rows = last.record_is in cc wrong) cycled.found within;
+      undone = within;
+    })
 stands_more done kept (Snapshot items conf rows) next is stands e =
     let found = kept_is kept next items conf rows e in
     subst (Stands (done ++ Snapshot items conf rows ∷ [])) found.next_is
     (stands_snapshot done kept items conf rows is stands found.items_are (is_true kept (Snapshot items conf rows)) refl)
 stands_more done kept (Upgrade at) next is stands e =
     subst (Stands (done ++ Upgrade at ∷ [])) (upgrade_is kept next at e)
-    (plain done kept (Upgrade at) is stands (λ n last. let wrong : Upgrade at ≡ Snapshot n last.conf last.rows = last.record_is in cc wrong) refl (length kept.timeline) (omega arith))
+    (record {
+      marks = plain done kept (Upgrade at) is stands.marks (λ n last. let wrong : Upgrade at ≡ Snapshot n last.conf last.rows = last.record_is in cc wrong) refl (length kept.timeline) (omega arith);
+      undone = stands.undone;
+    })
+stands_more done kept (Withdraw number at key of) next is stands e =
+    let taken_back = withdrawn_is kept next at key of number e in
+    let within = withdrawn_within kept at taken_back.last (last_within (length kept.timeline) of kept.undone taken_back.last stands.undone taken_back.found) in
+    subst (Stands (done ++ Withdraw number at key of ∷ [])) taken_back.next_is (record {
+      marks = rewound_at done kept (Withdraw number at key of) is stands.marks taken_back.last.position (length (withdrawn_at kept at taken_back.last).timeline)
+          (λ n last. let wrong : Withdraw number at key of ≡ Snapshot n last.conf last.rows = last.record_is in cc wrong)
+          (ap (option_map (λ (last : UndoneBehind). last.position)) taken_back.found) within;
+      undone = tt;
+    })
 stands_more done kept _ next is stands e = absurd (cc e)
 
 -- the first record is no snapshot
@@ -222,11 +263,14 @@ stands_first r kept e = let first = is_first r kept e in subst (Stands (r ∷ []
 
     empty : (house : House) (conf : Conf) → Stands (r ∷ []) (new_desk house conf)
     empty house conf = record {
-      rises = tt;
-      within = λ n wrong. absurd wrong;
-      usable = λ n wrong. absurd wrong;
-      there = λ n u. absurd (none n u.before u.conf u.rows u.after u.kept u.state_is u.split);
+      marks = record {
+        rises = tt;
+        within = λ n wrong. absurd wrong;
+        usable = λ n wrong. absurd wrong;
+        there = λ n u. absurd (none n u.before u.conf u.rows u.after u.kept u.state_is u.split);
+      };
+      undone = tt;
     }
 
-pub stands : (records : List JournalRecord) (kept : Kept) → state records ≡ Some kept → Stands records kept
-stands = along Stands stands_first stands_more
+pub stands : (records : List JournalRecord) (kept : Kept) → state records ≡ Some kept → StandsAt records kept.marks.places (length kept.timeline)
+stands records kept is = (along Stands stands_first stands_more records kept is).marks

@@ -6,7 +6,7 @@ use Rattle.verb_core.specs.declared.mailbox.Mailbox.{Mailbox}
 use Rattle.verb_bytes.specs.declared.journal.JournalRecord.{JournalRecord}
 use Rattle.verb_bytes.specs.declared.journal.JournalRecord.TheVariants.{Snapshot}
 use Rattle.store_kept.specs.Kept.{Kept}
-use Rattle.desk_journal.specs.Records.{is_cycle, is_snapshot, is_true, place_rewound_to, state}
+use Rattle.desk_journal.specs.Records.{is_rewind, is_snapshot, is_true, place_rewound_to, state}
 
 -- ---- which can be used
 
@@ -30,9 +30,9 @@ pub record IsUsable (records : List JournalRecord) (items : ℕ) : Type 0 where
 
 -- ---- how many there are
 
--- how many records are snapshots, and how many are cycles
+-- how many records are snapshots, and how many are cycles and withdrawals
 abbrev pub snapshots_in : List JournalRecord → ℕ
 snapshots_in records = length (filter is_snapshot records)
 
-abbrev pub cycles_in : List JournalRecord → ℕ
-cycles_in records = length (filter is_cycle records)
+abbrev pub rewinds_in : List JournalRecord → ℕ
+rewinds_in records = length (filter is_rewind records)

@@ -9,7 +9,7 @@ ghost use Rattle.verb_bytes.specs.declared.journal.JournalRecord.{JournalRecord}
 ghost use Rattle.verb_bytes.specs.declared.journal.JournalRecord.TheVariants.{Snapshot};
 ghost use Rattle.store_kept.specs.Kept.{Kept, newest_at};
 ghost use Rattle.desk_journal.specs.Records.{state};
-ghost use Rattle.snapshot_laws.specs.Usable.{IsUsable, cycles_in, snapshots_in};
+ghost use Rattle.snapshot_laws.specs.Usable.{IsUsable, rewinds_in, snapshots_in};
 
 /// Of places that rise, `newest_at` is the last that is not behind the given one, or 0.
 pub fn newest_at_is_the_last_at_or_before()
@@ -30,7 +30,7 @@ pub fn places_are_the_usable_snapshots()
     ensures there { (records : List JournalRecord) (kept : Kept) → state records ≡ Some kept → (n : ℕ) → IsUsable records n → Contains kept.marks.places n }
 {}
 
-/// A cycle at a place begins from the last usable snapshot that is not behind it, or from the opening store: `newest_at` tells
+/// A cycle at a place, or a withdrawal of one there, begins from the last usable snapshot that is not behind it, or from the opening store: `newest_at` tells
 /// behind how many items.
 pub fn cycles_begin_from_the_last_usable_snapshot()
     ensures usable { (records : List JournalRecord) (kept : Kept) (place : ℕ) → state records ≡ Some kept →
@@ -41,11 +41,11 @@ pub fn cycles_begin_from_the_last_usable_snapshot()
 {}
 
 /// The snapshots that are counted are the Snapshot records. The items that are counted as having entered since the last of these,
-/// or since the beginning, are as many as the numbers that were given since, but for those of the cycles.
+/// or since the beginning, are as many as the numbers that were given since, but for those of the cycles and of the withdrawals.
 pub fn counts_are_the_records()
     ensures taken { (records : List JournalRecord) (kept : Kept) → state records ≡ Some kept → kept.marks.taken ≡ snapshots_in records }
     ensures since { (before after : List JournalRecord) (items : ℕ) (conf : Conf) (rows : List (BoxId × Mailbox)) (then kept : Kept) → state before ≡ Some then →
-        state (before ++ Snapshot items conf rows ∷ after) ≡ Some kept → snapshots_in after ≡ 0 → then.next + cycles_in after + kept.marks.since ≡ kept.next }
+        state (before ++ Snapshot items conf rows ∷ after) ≡ Some kept → snapshots_in after ≡ 0 → then.next + rewinds_in after + kept.marks.since ≡ kept.next }
     ensures first { (records : List JournalRecord) (kept : Kept) → state records ≡ Some kept → snapshots_in records ≡ 0 →
-        kept.house.first + cycles_in records + kept.marks.since ≡ kept.next }
+        kept.house.first + rewinds_in records + kept.marks.since ≡ kept.next }
 {}
