@@ -24,7 +24,7 @@ def do_status(words: Words) -> int:
     found = measured(words.console, words.store, words.ports, int(time.time()))
     warnings = found.warnings()
     counts = found.counts
-    meaning = {'cycles': 'cycles that were run', 'items': 'items in force', 'messages': 'messages in mailboxes', 'next': f'the next number, of {LAST_NUMBER}',
+    meaning = {'cycles': 'cycles that were run, and withdrawals', 'items': 'items in force', 'messages': 'messages in mailboxes', 'next': f'the next number, of {LAST_NUMBER}',
                'notices': 'notices', 'users': 'users of the house'}
     lines = [table(['count', 'of'], ([count, meaning.get(name, name)] for name, count in counts.items())), '', *found.lines(), *(f'Warning: {it}' for it in warnings)]
     show(words, {**counts, 'measures': found.as_data(), 'warnings': warnings}, '\n'.join(lines))

@@ -121,6 +121,8 @@ def refusal(answer: Answer, not_there: str) -> Trouble:
         return Trouble(REFUSED, not_there)
     if answer.status == 413:
         return Trouble(REFUSED, f'The console refuses the request as too large (413): more than {LARGEST_REQUEST:,} octets.')
+    if answer.status == 422 and said.get('error') == 'cycle':
+        return Trouble(REFUSED, f'Cycle {said.get("given")} can\'t be taken back (422): only the last of all cycles and withdrawals can, where it is a cycle.')
     if answer.status == 422:
         return Trouble(REFUSED, f'The timeline does not have the point {said.get("given")} (422): a point is 0 or the number of an item in force.')
     if answer.status == 507:

@@ -1,4 +1,4 @@
-"""The commands that prepare, try and run cycles: draft, try, run, give-back."""
+"""The commands that prepare, try and run cycles and take them back: draft, try, run, withdraw, give-back."""
 from __future__ import annotations
 
 import base64
@@ -10,7 +10,7 @@ from typing import Any
 from .asked import idle_parts, new_key, octets_of, refuse, shape_faults, store_faults
 from .common import Words, confirmed, show, write_request
 from .console import Timeline
-from .cycles import Outcome, Prepared, naming_of, prepared, run_cycle
+from .cycles import Outcome, Prepared, naming_of, prepared, run_cycle, withdraw, withdrawal_told
 from .files import kept_from, mail_from, request_from
 from .formats import LARGEST_REQUEST
 from .told import by_user, counted, effects_text, naming_text, report_text, totals_text
@@ -66,6 +66,20 @@ def do_run(words: Words) -> int:
     show(words, {'report': outcome.report, 'repeated': outcome.repeated, 'kept': outcome.kept}, outcome_text(request, outcome, len(texts), words.all))
     if outcome.fault:
         raise Trouble(FILE_FAULT, f'The cycle was done. {outcome.fault}')
+    return 0
+
+
+def do_withdraw(words: Words) -> int:
+    if not words.yes:
+        effects, said = withdrawal_told(words.cycle, words.store, words.keep, words.progress)
+        words.progress.end()
+        print('\n\n'.join([said, *([effects_text(effects, words.all), report_text(effects.report, False, words.all, 'withdrawal')] if effects else [])]) + '\n', file=sys.stderr)
+        confirmed(f'What cycle {words.cycle} dropped or replaced comes back, what it brought in goes, and all work since then stays. Every mail reader is sent away and connects again. Take it back?')
+    outcome = withdraw(words.console, words.key or new_key(), words.cycle, words.keep)
+    head = 'The key had its report before, and nothing was done now.' if outcome.repeated else f'Cycle {words.cycle} is taken back.'
+    show(words, {'report': outcome.report, 'repeated': outcome.repeated, 'kept': outcome.kept}, f'{head}\n{report_text(outcome.report, True, words.all, "withdrawal")}\n\nRequest and report are kept in {outcome.kept}.')
+    if outcome.fault:
+        raise Trouble(FILE_FAULT, f'The cycle was taken back. {outcome.fault}')
     return 0
 
 

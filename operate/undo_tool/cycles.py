@@ -6,8 +6,8 @@ from typing import Any, Callable, NamedTuple, Optional
 
 from .asked import octets_of
 from .console import Console, Timeline, accepted
-from .files import KeptRun
-from .history import Effects, effects, opened, read, same_report
+from .files import KeptRun, kept_report
+from .history import Effects, effects, opened, read, same_report, withdrawal_effects
 from .named import Naming, named
 from .troubles import NO_SERVER, Trouble
 
@@ -31,10 +31,15 @@ def try_cycle(console: Console, request: dict[str, Any]) -> dict[str, Any]:
 
 def run_cycle(console: Console, request: dict[str, Any], folder: str, texts: list[dict[str, Any]]) -> Outcome:
     """Sends a cycle; its request and the texts that it drops or replaces are kept before it is sent, and its report after it came."""
+    return sent(console, '/cycle', request, folder, texts)
+
+
+def sent(console: Console, path: str, request: dict[str, Any], folder: str, texts: list[dict[str, Any]]) -> Outcome:
+    """Sends a request for a cycle or a withdrawal, and keeps it."""
     following = Timeline(console).counts()['next']
     run = KeptRun(folder, console.where, request, texts)
     try:
-        report = accepted(console.post('/cycle', octets_of(request)))
+        report = accepted(console.post(path, octets_of(request)), f'This server knows no {path} (404): it came with a later version of undomail.')
     except Trouble as trouble:
         if trouble.code == NO_SERVER:
             raise Trouble(NO_SERVER, f'{lost_answer(str(trouble))} The request is kept in {run.path}.') from None
@@ -42,6 +47,21 @@ def run_cycle(console: Console, request: dict[str, Any], folder: str, texts: lis
     # a new cycle draws the next number or a later one; an earlier number tells that the key had its cycle before
     repeated = report['cycle'] < following
     return Outcome(report, repeated, run.path, run.keep(report, repeated))
+
+
+def withdraw(console: Console, key: str, of: int, folder: str) -> Outcome:
+    """Takes the last cycle back."""
+    return sent(console, '/withdraw', {'key': key, 'of': of}, folder, [])
+
+
+def withdrawal_told(of: int, store: Optional[str], folder: str, tell: Callable[[str], None]) -> tuple[Optional[Effects], str]:
+    """What a withdrawal would do, where the journal can be read, and what is known of its cycle from the runs that are kept here."""
+    kept = kept_report(folder, of)
+    said = f'Nothing is kept here of cycle {of} (--keep {folder}).' if kept is None else f'Cycle {of} went back to point {kept["point"]}, and {len(kept["broken"])} of its users\' answers held no more.'
+    if store is None:
+        return None, f'{said} What its withdrawal does to each user is told where the journal can be read (--store).'
+    with opened(store) as journal:
+        return withdrawal_effects(read(journal, tell=tell), of, int(time.time()), tell), said
 
 
 class Prepared(NamedTuple):

@@ -4,6 +4,7 @@ from __future__ import annotations
 import base64
 import contextlib
 import errno
+import glob
 import itertools
 import json
 import os
@@ -140,3 +141,15 @@ def kept_from(path: str) -> dict[str, Any]:
     if not isinstance(found, dict) or not isinstance(found.get('request'), dict) or not isinstance(found.get('texts'), list):
         raise Trouble(WRONG_WORDS, f'{path} is no file that a run kept: it has no request, or no texts.')
     return found
+
+
+def kept_report(folder: str, cycle: int) -> Optional[dict[str, Any]]:
+    """The report of a cycle among the runs that are kept in a folder."""
+    for path in sorted(glob.glob(os.path.join(glob.escape(folder), 'cycle-*.json')), reverse=True):
+        try:
+            report = kept_from(path).get('report')
+        except Trouble:
+            continue
+        if isinstance(report, dict) and report.get('cycle') == cycle:
+            return report
+    return None

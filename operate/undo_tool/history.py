@@ -6,10 +6,10 @@ import dataclasses
 from typing import Any, Callable, Iterable, Iterator, NamedTuple, Optional
 
 from .formats import BODY, HEADER, RECIPIENT, SENDER
-from .journal import (NOBODY, Append, Body, Close, Copy, Create, Cycle, Damaged, Deed, Delete, Deliver, DropAlias, DropFilter, Expunge, Fetch, Filter, Format, Give, Journal, List,
-                      NoStore, Notice, Operator, Remove, Rename, Select, SetAlias, SetFilter, Snapshot, Status, Store, Verb, keys_in, sights_in)
+from .journal import (NOBODY, Append, Body, Close, Copy, Create, Cycle, Damaged, Deed, Delete, Deliver, DropAlias, DropFilter, Expunge, Fetch, Filter, Format, Give, Journal, Kept, List,
+                      NoStore, Notice, Operator, Remove, Rename, Select, SetAlias, SetFilter, Snapshot, Status, Store, Verb, Withdraw, keys_in, sights_in)
 from .mail import Message, text_of
-from .model import INBOX, LOST_FOUND, NOTHING, Ask, Done, House, Item, MailStore, NoNumbers, NoPoint, Outcome, Past
+from .model import INBOX, LOST_FOUND, NOTHING, Ask, Done, House, Item, MailStore, NoCycle, NoNumbers, NoPoint, Outcome, Past, item_of
 from .troubles import DAMAGED, FILE_FAULT, NOTHING_FOUND, REFUSED, Trouble
 
 Tell = Callable[[str], None]
@@ -186,6 +186,9 @@ class Telling:
             return f'to {self.user(deed.user)}: {subject(deed.body)}'
         return self.act(deed)
 
+    def withdrawal(self, it: Withdraw, done: Done) -> str:
+        return f'"{it.key}", cycle {it.of} taken back; {self.notices(done)}'
+
     def cycle(self, it: Cycle, done: Done) -> str:
         parts = [f'"{it.key}", back to point {it.point}']
         if it.drops:
@@ -193,9 +196,11 @@ class Telling:
         if it.replaces:
             parts.append(f'another text for {some([str(row.item) for row in it.replaces])}')
         parts += [f'brought in {item.number}: {self.act(item.deed)}' for item in done.made if type(item.deed) is not Notice]
+        return '; '.join([*parts, self.notices(done)])
+
+    def notices(self, done: Done) -> str:
         notices = [f'{item.number} to {self.user(item.deed.user)}' for item in done.made if type(item.deed) is Notice]
-        parts.append(f'notices {some(notices)}' if notices else 'no notice')
-        return '; '.join(parts)
+        return f'notices {some(notices)}' if notices else 'no notice'
 
 
 def filter_data(it: Filter) -> dict[str, Any]:
@@ -288,10 +293,10 @@ def who_read(past: Past, number: int, tell: Tell) -> Read:
 
     def seen(record: Any, frame: Any, outcome: Any) -> None:
         kind = type(record)
-        if kind is Verb:
+        if kind is Verb or kind is Kept:
             deed = record.deed
             if record.number == number:
-                found.append((Item(record.number, record.at, record.by, 0, deed), outcome))
+                found.append((item_of(record), outcome))
                 note(outcome)
             elif type(deed) is Fetch and watched:
                 for key, rev in sights_in(deed.shown):
@@ -306,7 +311,7 @@ def who_read(past: Past, number: int, tell: Tell) -> Read:
         elif kind is Operator and record.number == number:
             found.append((Item(number, record.at, None, 0, record.deed), outcome))
             note(outcome)
-        elif kind is Cycle:
+        elif kind is Cycle or kind is Withdraw:
             for item in outcome.made:
                 if item.number == number:
                     found.append((item, NOTHING))
@@ -357,8 +362,8 @@ def deliveries(past: Past, chosen: Choice, tell: Tell) -> list[Delivery]:
     items: dict[int, tuple[Item, int]] = {}
 
     def seen(record: Any, frame: Any, outcome: Any) -> None:
-        if type(record) is Verb and type(record.deed) is Deliver:
-            item = Item(record.number, record.at, None, 0, record.deed)
+        item = item_of(record)
+        if item is not None and type(item.deed) is Deliver:
             if chosen(past.store, item, outcome):
                 then[item.number], items[item.number] = outcome, without_text(item)
 
@@ -449,20 +454,39 @@ def deed_of(house: House, act: dict[str, Any]) -> Deed:
 def effects(past: Past, request: dict[str, Any], at: int, tell: Tell) -> Effects:
     """What a cycle would do if it ran now on what the journal leaves."""
     try:
-        done = past.cycle(ask_of(past, request), at, tell)
+        return effects_of(past, past.cycle(ask_of(past, request), at, tell))
     except NoPoint:
         raise Trouble(REFUSED, f'The timeline does not have the point {request["point"]}.') from None
     except NoNumbers:
         raise Trouble(REFUSED, 'Too few numbers are left for a cycle.') from None
+
+
+def withdrawal_effects(past: Past, of: int, at: int, tell: Tell) -> Effects:
+    """What a withdrawal of a cycle would do if it ran now on what the journal leaves; the past is of no use behind it."""
+    try:
+        return effects_of(past, past.withdrawn(of, at, tell))
+    except NoCycle:
+        last = f'the last one is cycle {past.undone.cycle}' if past.undone else 'there is none'
+        raise Trouble(REFUSED, f'Only the last of all cycles and withdrawals can be taken back, where it is a cycle: {last}.') from None
+    except NoNumbers:
+        raise Trouble(REFUSED, 'Too few numbers are left for a withdrawal.') from None
+
+
+def effects_of(past: Past, done: Done) -> Effects:
+    """What comes of it for each user's mail."""
     new = {item.number: item for item in done.made}
     notices = {item.number for item in done.made if type(item.deed) is Notice}
     saids: dict[int, str] = {}
 
-    def said(number: int) -> str:
+    def said(mail: Mail) -> str:
+        number = mail.origin
         if number not in saids:
-            item = new.get(number) or past.item(number)
-            body = item.body
-            who = f'from {text_of(item.deed.sender) or "<>"}' if type(item.deed) is Deliver else item.verb
+            if number in new or past.has(number):
+                item = new.get(number) or past.item(number)
+                body = item.body
+                who = f'from {text_of(item.deed.sender) or "<>"}' if type(item.deed) is Deliver else item.verb
+            else:
+                who, body = 'before the cut', past.text_before(number, mail.rev)
             saids[number] = f'{who}: {subject(body) if body else ""}'
         return saids[number]
     changes, keeps = [], {}
@@ -470,16 +494,24 @@ def effects(past: Past, request: dict[str, Any], at: int, tell: Tell) -> Effects
         before, after = mail_of(past.store, user), mail_of(done.store, user)
         lost = [key for key in before if key not in after]
         got = [key for key in after if key not in before and key >> 16 not in notices]
-        other = [key for key, (_, origin) in after.items() if key in before and past.store.revs.get(origin, 0) != done.store.revs.get(origin, 0)]
+        other = [key for key, it in after.items() if key in before and before[key].rev != it.rev]
         for what, keys, there in (('loses', lost, before), ('gets', got, after), ('other text', other, after)):
-            changes += [Change(what, name, there[key][1], there[key][0], said(there[key][1])) for key in keys]
+            changes += [Change(what, name, there[key].origin, there[key].box, said(there[key])) for key in keys]
         keeps[name] = sum(1 for key in after if key in before) - len(other)
     return Effects(changes, keeps, done.report)
 
 
-def mail_of(store: MailStore, user: int) -> dict[int, tuple[str, int]]:
-    """A user's messages, each with its mailbox and the item of its text."""
-    return {entry.key: (name, entry.origin) for name, box in store.boxes[user].items() for entry in box.entries()}
+class Mail(NamedTuple):
+    """A message: its mailbox, and the item and rev of its text."""
+
+    box: str
+    origin: int
+    rev: int
+
+
+def mail_of(store: MailStore, user: int) -> dict[int, Mail]:
+    """A user's messages."""
+    return {entry.key: Mail(name, entry.origin, entry.rev) for name, box in store.boxes[user].items() for entry in box.entries()}
 
 
 def same_report(one: dict[str, Any], other: dict[str, Any]) -> bool:

@@ -188,7 +188,7 @@ class Give(NamedTuple):
 
 
 class Notice(NamedTuple):
-    """A notice of a cycle: it stands in no record."""
+    """A notice of a cycle: it stands in no record but that of an item that a cut kept."""
 
     user: int
     body: Body
@@ -238,6 +238,13 @@ class Upgrade(NamedTuple):
     at: int
 
 
+class Withdraw(NamedTuple):
+    number: int
+    at: int
+    key: str
+    of: int
+
+
 class SnapshotBox(NamedTuple):
     user: int
     name: str
@@ -252,7 +259,65 @@ class Snapshot(NamedTuple):
     boxes: tuple[SnapshotBox, ...]
 
 
-Record = Union[Format, Verb, Operator, Cycle, Snapshot, Upgrade]
+class Stamp(NamedTuple):
+    user: int
+    name: str
+    stamp: int
+
+
+class BrokenRow(NamedTuple):
+    """An item whose answer no longer held: the deed's byte, the mailbox that it names first, and the reason's place among REASONS."""
+
+    number: int
+    user: int
+    verb: int
+    box: Optional[str]
+    reason: int
+
+
+class Told(NamedTuple):
+    """The report of a cycle or a withdrawal, as a Base has it."""
+
+    cycle: int
+    point: int
+    kept: int
+    broken: tuple[BrokenRow, ...]
+    notices: tuple[int, ...]
+    renewed: tuple[Stamp, ...]
+    unmatched: tuple[int, ...]
+
+
+class Base(NamedTuple):
+    """The store that a cut left as the beginning, and what was in force beside it: names are those of a Snapshot where they mean the same."""
+
+    following: int
+    deep: bool
+    aliases: tuple[tuple[str, tuple[int, ...]], ...]
+    filters: tuple[Filter, ...]
+    boxes: tuple[SnapshotBox, ...]
+    stamps: tuple[Stamp, ...]
+    reports: tuple[tuple[str, Told], ...]
+
+
+class Text(NamedTuple):
+    """The text of messages of the base, by the item that brought it and its rev."""
+
+    origin: int
+    rev: int
+    body: Body
+
+
+class Kept(NamedTuple):
+    """An item that a cut kept, as it was in force."""
+
+    number: int
+    at: int
+    by: Optional[int]
+    rev: int
+    deed: Deed
+
+
+Record = Union[Format, Verb, Operator, Cycle, Snapshot, Upgrade, Withdraw, Base, Text, Kept]
 
 U32, KEY, SIGHT, ENTRY = struct.Struct('>I'), struct.Struct('>IH'), struct.Struct('>IHI'), struct.Struct('>QIHIIBQ')
 VERB_HEAD = struct.Struct('>IQBB')  # number, moment, actor and the deed's byte, behind the kind
@@ -390,6 +455,17 @@ class Fields:
     def keys(self) -> bytes:
         return self.of_size(6, MOST_KEYS)
 
+    # a message's text, and what was shown
+
+    def body(self) -> Body:
+        return self.text(LARGEST_BODY)
+
+    def shown_keys(self) -> bytes:
+        return self.keys()
+
+    def sights(self) -> bytes:
+        return self.of_size(10, MOST_KEYS)
+
     def option(self, one: Callable[[], Any]) -> Any:
         return one() if self.flag() else None
 
@@ -432,17 +508,32 @@ class Fields:
             raise Refused(at, f'what is shown has the form {found}, and that of this deed is {form}')
 
 
+class KeptFields(Fields):
+    """Those of an item that a cut kept: its texts and what it showed have no range but that of their counts."""
+
+    __slots__ = ()
+
+    def body(self) -> Body:
+        return self.text()
+
+    def shown_keys(self) -> bytes:
+        return self.of_size(6)
+
+    def sights(self) -> bytes:
+        return self.of_size(10)
+
+
 # ---- records ----
 
 
 def deliver(it: Fields) -> Deliver:
-    found = Deliver(it.text().octets, it.each(it.name, MOST_RECIPIENTS), it.text(LARGEST_BODY))
+    found = Deliver(it.text().octets, it.each(it.name, MOST_RECIPIENTS), it.body())
     it.shown(0)
     return found
 
 
 def append(it: Fields) -> Append:
-    box, flags, moment, body = it.name(), it.flags(), it.moment(), it.text(LARGEST_BODY)
+    box, flags, moment, body = it.name(), it.flags(), it.moment(), it.body()
     it.shown(6)
     return Append(box, flags, moment, body, it.flag())
 
@@ -450,19 +541,19 @@ def append(it: Fields) -> Append:
 def fetch(it: Fields) -> Fetch:
     box, keys, seen, looks = it.name(), it.keys(), it.flag(), it.flag()
     it.shown(1)
-    return Fetch(box, keys, seen, looks, it.of_size(10, MOST_KEYS))
+    return Fetch(box, keys, seen, looks, it.sights())
 
 
 def store(it: Fields) -> Store:
     box, keys, how, flags = it.name(), it.keys(), it.up_to(2, 'how flags change'), it.flags()
     it.shown(4)
-    return Store(box, keys, how, flags, it.keys())
+    return Store(box, keys, how, flags, it.shown_keys())
 
 
 def copy(it: Fields) -> Copy:
     box, keys, target = it.name(), it.keys(), it.name()
     it.shown(5)
-    return Copy(box, keys, target, (it.keys(), it.flag()))
+    return Copy(box, keys, target, (it.shown_keys(), it.flag()))
 
 
 def names(it: Fields) -> List:
@@ -483,7 +574,7 @@ def keyed(form: Callable[..., Deed], shown: int) -> Callable[[Fields], Deed]:
     def reads(it: Fields) -> Deed:
         box, keys = it.name(), it.keys()
         it.shown(shown)
-        return form(box, keys, it.keys())
+        return form(box, keys, it.shown_keys())
     return reads
 
 
@@ -505,7 +596,7 @@ DEEDS: dict[int, Callable[[Fields], Deed]] = {
 }
 ACTS: dict[int, Callable[[Fields], Deed]] = {
     1: lambda it: SetAlias(*it.alias()), 2: lambda it: DropAlias(it.name()), 3: lambda it: SetFilter(it.filter()), 4: lambda it: DropFilter(it.name()),
-    5: lambda it: Remove(it.user(), it.name(), int.from_bytes(it.take(6), 'big')), 6: lambda it: Give(it.user(), it.name(), it.text(LARGEST_BODY)),
+    5: lambda it: Remove(it.user(), it.name(), int.from_bytes(it.take(6), 'big')), 6: lambda it: Give(it.user(), it.name(), it.body()),
     7: lambda it: SetFilter(it.scoped(FIELD)),
 }
 
@@ -551,15 +642,68 @@ def entries(it: Fields) -> bytes:
     return found
 
 
+def snapshot_box(it: Fields) -> SnapshotBox:
+    return SnapshotBox(it.user(), it.name(), it.u64(), entries(it))
+
+
 def snapshot(it: Fields, scoped: bool) -> Snapshot:
-    return Snapshot(it.u32(), it.each(it.alias), it.scoped_filters() if scoped else it.each(it.filter), it.each(lambda: SnapshotBox(it.user(), it.name(), it.u64(), entries(it))))
+    return Snapshot(it.u32(), it.each(it.alias), it.scoped_filters() if scoped else it.each(it.filter), it.each(lambda: snapshot_box(it)))
 
 
-FORMAT, VERB, OPERATOR, CYCLE, SNAPSHOT, UPGRADE, SCOPED_SNAPSHOT = range(7)
+KEPT_ACT, KEPT_NOTICE = 14, 15
+
+
+def unshown(reads: Callable[[Fields], Deed]) -> Callable[[Fields], Deed]:
+    """A deed that shows nothing."""
+    def both(it: Fields) -> Deed:
+        found = reads(it)
+        it.shown(0)
+        return found
+    return both
+
+
+KEPT_DEEDS = {**DEEDS, KEPT_ACT: unshown(act), KEPT_NOTICE: unshown(lambda it: Notice(it.user(), it.body()))}
+
+
+def kept(it: Fields) -> Kept:
+    its = KeptFields(it.octets)
+    its.at = it.at
+    found = Kept(its.u32(), its.moment(), its.actor(), its.u32(), one_of(its, KEPT_DEEDS, 'the deed'))
+    it.at = its.at
+    return found
+
+
+def stamp(it: Fields) -> Stamp:
+    return Stamp(it.user(), it.name(), it.u32())
+
+
+def broken_row(it: Fields) -> BrokenRow:
+    return BrokenRow(it.u32(), it.user(), one_of_deeds(it), it.option(it.name), it.up_to(REASONS - 1, 'a reason'))
+
+
+def one_of_deeds(it: Fields) -> int:
+    at, found = it.at, it.u8()
+    if found not in DEEDS:
+        raise Refused(at, f'the deed {found} is none that docs/FORMATS.md has')
+    return found
+
+
+def told(it: Fields) -> Told:
+    return Told(it.u32(), it.u32(), it.u32(), it.each(lambda: broken_row(it)), it.each(it.u32), it.each(lambda: stamp(it)), it.each(it.u32))
+
+
+def base(it: Fields) -> Base:
+    following, deep, aliases, filters, boxes = it.u32(), it.flag(), it.each(it.alias), it.each(lambda: it.scoped(WHOLE)), it.each(lambda: snapshot_box(it))
+    return Base(following, deep, aliases, filters, boxes, it.each(lambda: stamp(it)), it.each(lambda: (it.name(), told(it))))
+
+
+FORMAT, VERB, OPERATOR, CYCLE, SNAPSHOT, UPGRADE, SCOPED_SNAPSHOT, WITHDRAW, BASE, TEXT, KEPT = range(11)
+REASONS = 9
 SNAPSHOTS = (SNAPSHOT, SCOPED_SNAPSHOT)
 KINDS: dict[int, Callable[[Fields], Record]] = {
     FORMAT: the_format, VERB: verb, OPERATOR: lambda it: Operator(it.u32(), it.moment(), act(it)), CYCLE: cycle, SNAPSHOT: lambda it: snapshot(it, False),
-    UPGRADE: lambda it: Upgrade(it.moment()), SCOPED_SNAPSHOT: lambda it: snapshot(it, True),
+    UPGRADE: lambda it: Upgrade(it.moment()), SCOPED_SNAPSHOT: lambda it: snapshot(it, True), WITHDRAW: lambda it: Withdraw(it.u32(), it.moment(), it.name(), it.u32()),
+    BASE: base, TEXT: lambda it: Text(it.u32(), it.u32(), it.text()), KEPT: kept,
 }
 
 

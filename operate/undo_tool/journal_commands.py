@@ -9,9 +9,9 @@ from .common import Words, drafted, show, store_of, wanted_of
 from .console import Item as Row
 from .console import Wanted
 from .history import (FLAGS_ALONE, LOOK_WORDS, LOOKED, READ, Delivery, Read, Telling, addressed_to, opened, read, reading, some, touched_by, who_read)
-from .journal import Cycle, Format, Journal, Operator, SetFilter, Upgrade, Verb
+from .journal import ENTRY, Base, Cycle, Format, Journal, SetFilter, Text, Upgrade, Withdraw
 from .mail import Message, text_of
-from .model import NOTHING, Done, Item, Outcome, Past, box_named
+from .model import NOTHING, Done, Item, Outcome, Past, box_named, item_of
 from .moments import local, utc
 from .told import counted, cut, folded, plain, table
 from .troubles import NOTHING_FOUND, Trouble
@@ -44,17 +44,32 @@ class Rows:
         kind = type(record)
         if kind is Format:
             self.telling, self.width = Telling(self.past.house), max(map(len, self.past.house.users))
-        if kind is Verb or kind is Operator:
-            self.of_item(Item(record.number, record.at, record.by if kind is Verb else None, 0, record.deed), outcome)
+        item = item_of(record)
+        if item is not None:
+            self.of_item(item, outcome)
         elif kind is Cycle:
             if self.has(record.number, record.at, '', 'CYCLE', ''):
                 self.write(self.cycle_data(record, outcome) if self.json else None, record.number, record.at, '', 'CYCLE', lambda: self.telling.cycle(record, outcome))
+        elif kind is Withdraw:
+            if self.has(record.number, record.at, '', 'WITHDRAW', ''):
+                self.write(self.withdrawal_data(record, outcome) if self.json else None, record.number, record.at, '', 'WITHDRAW', lambda: self.telling.withdrawal(record, outcome))
         elif kind is Upgrade:
             if self.has_without_number(record.at, 'UPGRADE'):
                 self.write({'verb': 'UPGRADE', 'at': record.at}, None, record.at, '', 'UPGRADE', lambda: 'names of mailboxes may have superiors from here on')
-        elif not self.chooses:
-            data = self.format_data(record) if kind is Format else {'verb': 'SNAPSHOT', 'items': record.count, 'octets': frame.length}
-            self.write(data, None, None, '', data['verb'], lambda: self.format_text(data) if kind is Format else f'of the store behind {record.count:,} items, {frame.length:,} octets')
+        elif not self.chooses and kind is not Text:
+            data, words = self.without_moment(record, frame)
+            self.write(data, None, None, '', data['verb'], words)
+
+    def without_moment(self, record: Any, frame: Any) -> tuple[dict[str, Any], Callable[[], str]]:
+        """A record that nobody made at a moment, and its words."""
+        if type(record) is Format:
+            data = self.format_data(record)
+            return data, lambda: self.format_text(data)
+        if type(record) is Base:
+            messages = sum(len(box.entries) // ENTRY.size for box in record.boxes)
+            data = {'verb': 'BASE', 'messages': messages, 'mailboxes': len(record.boxes), 'reports': len(record.reports), 'next': record.following, 'upgraded': record.deep}
+            return data, lambda: f'the past was cut off: {messages:,} messages in {len(record.boxes):,} mailboxes, {len(record.reports):,} cycles, next number {record.following}'
+        return {'verb': 'SNAPSHOT', 'items': record.count, 'octets': frame.length}, lambda: f'of the store behind {record.count:,} items, {frame.length:,} octets'
 
     def has(self, number: int, at: int, by: str, verb: str, box: str) -> bool:
         return not self.chooses or ((self.item is None or self.item == number) and self.wanted.has(Row(number, at, by, verb, box)))
@@ -77,6 +92,9 @@ class Rows:
     def cycle_data(self, record: Cycle, done: Done) -> dict[str, Any]:
         return {'number': record.number, 'at': record.at, 'verb': 'CYCLE', 'by': '', 'key': record.key, 'report': done.report, 'drops': list(record.drops),
                 'replaces': [{'item': it.item, 'octets': len(it.body.octets)} for it in record.replaces], 'made': [self.telling.data(item, NOTHING) for item in done.made]}
+
+    def withdrawal_data(self, record: Withdraw, done: Done) -> dict[str, Any]:
+        return {'number': record.number, 'at': record.at, 'verb': 'WITHDRAW', 'by': '', 'key': record.key, 'of': record.of, 'report': done.report, 'made': [self.telling.data(item, NOTHING) for item in done.made]}
 
     def format_data(self, record: Format) -> dict[str, Any]:
         users = self.past.house.users

@@ -11,7 +11,7 @@ from typing import Any, Callable, Optional
 from .commands import do_box, do_conf, do_find, do_metrics, do_page, do_plan, do_show, do_snapshot, do_status, do_timeline, do_upgrade
 from .common import Words
 from .console import Console
-from .cycle_commands import do_draft, do_give_back, do_run, do_try
+from .cycle_commands import do_draft, do_give_back, do_run, do_try, do_withdraw
 from .formats import BODY, HEADER, LARGEST_NUMBER, RECIPIENT, SENDER
 from .journal_commands import do_history, do_to, do_touched_by, do_who_read
 from .many import spread
@@ -175,7 +175,8 @@ def parser(said: str) -> argparse.ArgumentParser:
     draft_words(command('draft', do_draft, 'writes a request for a cycle, and refuses what the console would refuse'))
     it = command('try', do_try, 'what a request would do, to whom; nothing is done')
     it.add_argument('request', metavar='REQUEST', help='a file as `draft` writes it, or - for standard input')
-    run_words(command('run', do_run, 'runs a request, once it is confirmed; the texts that it drops or replaces are kept first'), command('page', do_page, 'serves a page for all this on 127.0.0.1'))
+    run_words(command('run', do_run, 'runs a request, once it is confirmed; the texts that it drops or replaces are kept first'), command('page', do_page, 'serves a page for all this on 127.0.0.1'),
+              command('withdraw', do_withdraw, 'takes the last cycle back, once it is confirmed: what it dropped is there again, and the work since then stays'))
     it = command('give-back', do_give_back, 'drafts gifts of the texts that a run kept')
     it.add_argument('kept', metavar='KEPT', help='the file that `run` kept')
     it.add_argument('items', type=number, nargs='*', metavar='ITEM', help='of these items alone')
@@ -235,12 +236,15 @@ def past_words(command: Callable[..., argparse.ArgumentParser]) -> None:
     journal_words(it, 'them')
 
 
-def run_words(run: argparse.ArgumentParser, page: argparse.ArgumentParser) -> None:
-    """The words of what may run a cycle."""
-    for it in (run, page):
+def run_words(run: argparse.ArgumentParser, page: argparse.ArgumentParser, withdraw: argparse.ArgumentParser) -> None:
+    """The words of what may run a cycle or take it back."""
+    for it in (run, page, withdraw):
         it.add_argument('--keep', default='.', metavar='FOLDER', help='where a run keeps its request, its report and the texts that it drops or replaces (here)')
     run.add_argument('request', metavar='REQUEST', help='a file as `draft` writes it, or - for standard input, with --yes')
-    run.add_argument('--yes', action='store_true', help='without asking')
+    withdraw.add_argument('cycle', type=number, metavar='CYCLE', help='its number, as its report says it: the last one')
+    withdraw.add_argument('--key', metavar='K', help='under this key (else a new one): a key that was used before is answered with its report, and nothing is done')
+    for it in (run, withdraw):
+        it.add_argument('--yes', action='store_true', help='without asking')
     page.add_argument('--listen', type=port, default=8090, metavar='PORT', help='the page\'s port (8090; 0 for a free one)')
 
 

@@ -11,26 +11,35 @@ import gc
 import hashlib
 import re
 from array import array
+from bisect import bisect_left
 from copy import copy as shallow_copy
-from typing import Any, Callable, Iterable, Iterator, NamedTuple, Optional
+from typing import Any, Callable, Container, Iterable, Iterator, NamedTuple, Optional, Union
 
 from . import journal
-from .formats import BODY, HEADER, LONGEST_NAME, SCOPES, SENDER
-from .journal import (ADD_FLAGS, DELETED, ENTRY, LAST_NUMBER, MERGED, NO_SOURCE, PLAINLY, REPLACE_FLAGS, SEEN, Append, Body, Close, Copy, Create, Cycle, Damaged, Deed, Delete,
-                      Deliver, DropAlias, DropFilter, Expunge, Fetch, Filter, Format, Frame, Give, Journal, List, NoStore, Notice, Operator, Remove, Rename, Select, SetAlias, SetFilter,
-                      Snapshot, Status, Store, Upgrade, Verb, keys_as, keys_in, sights_in)
+from .formats import BODY, HEADER, LONGEST_NAME, SENDER
+from .journal import (ADD_FLAGS, DELETED, ENTRY, LAST_NUMBER, MERGED, NO_SOURCE, PLAINLY, REPLACE_FLAGS, SEEN, Append, Base, Body, BrokenRow, Close, Copy, Create, Cycle, Damaged, Deed,
+                      Delete, Deliver, DropAlias, DropFilter, Expunge, Fetch, Filter, Format, Frame, Give, Journal, Kept, List, NoStore, Notice, Operator, Remove, Rename, Select, SetAlias,
+                      SetFilter, Snapshot, Stamp, Status, Store, Text, Told, Upgrade, Verb, Withdraw, keys_as, keys_in, sights_in)
+from .spelling import spelled_aliases, spelled_filters, spelled_name, u32
 
 INBOX, LOST_FOUND = 'INBOX', 'Lost+Found'
 FIXED = (INBOX, LOST_FOUND)
 SNAPSHOT_HEAD = 5
+KEPT_DEED = 18  # where the byte of its deed stands in a Kept
+LONG_AGO = 0  # since when names may have superiors, where a base tells that they may
+OF_NOBODY = (SetAlias, DropAlias, SetFilter, DropFilter, Remove, Give, Notice)
 
 VERBS = {Deliver: 'DELIVER', Append: 'APPEND', Fetch: 'FETCH', Store: 'STORE', Copy: 'COPY', List: 'LIST', Status: 'STATUS', Select: 'SELECT', Expunge: 'EXPUNGE', Close: 'CLOSE',
          Create: 'CREATE', Rename: 'RENAME', Delete: 'DELETE', SetAlias: 'ALIAS', DropAlias: 'UNALIAS', SetFilter: 'FILTER', DropFilter: 'UNFILTER', Remove: 'REMOVE', Give: 'GIVE',
          Notice: 'NOTICE'}
 
-MISSING, CHANGED, NO_NAME, FEWER, REDIRECTED, LEFT, RENAMED, MOVED, WITHDRAWN = (
+REASONS = MISSING, CHANGED, NO_NAME, FEWER, REDIRECTED, LEFT, RENAMED, MOVED, WITHDRAWN = (
     'a message is missing', 'a message was changed', 'a mailbox is missing', 'fewer messages', 'the mail went to Lost+Found', 'a message was kept',
     'the mailbox was not renamed', 'mail that you had not seen was kept', 'withdrawn by the operator')
+
+
+BYTE_OF = {form: byte for byte, form in enumerate((Deliver, Append, Fetch, Store, Copy, List, Status, Select, Expunge, Close, Create, Rename, Delete), 1)}
+VERB_OF = {byte: VERBS[form] for form, byte in BYTE_OF.items()}
 
 
 class Item(NamedTuple):
@@ -49,23 +58,29 @@ class Item(NamedTuple):
         return getattr(self.deed, 'body', None)
 
 
-# ---- mailboxes: an entry is one number of UID, origin of the text, moment and flags ----
+# ---- mailboxes: an entry is one number of UID, the text (rev and origin), moment and flags ----
 
-FLAG_BITS, MOMENT_BITS, ORIGIN_BITS = 5, 38, 22
-FLAG_MASK, MOMENT_MASK, ORIGIN_MASK = (1 << FLAG_BITS) - 1, (1 << MOMENT_BITS) - 1, (1 << ORIGIN_BITS) - 1
-UID_SHIFT, ORIGIN_SHIFT = FLAG_BITS + MOMENT_BITS + ORIGIN_BITS, FLAG_BITS + MOMENT_BITS
-MAIL_MASK = (1 << UID_SHIFT) - 1
+FLAG_BITS, MOMENT_BITS, NUMBER_BITS = 5, 38, 22
+FLAG_MASK, MOMENT_MASK, NUMBER_MASK = (1 << FLAG_BITS) - 1, (1 << MOMENT_BITS) - 1, (1 << NUMBER_BITS) - 1
+TEXT_SHIFT = FLAG_BITS + MOMENT_BITS
+REV_SHIFT, UID_SHIFT = TEXT_SHIFT + NUMBER_BITS, TEXT_SHIFT + 2 * NUMBER_BITS
+TEXT_MASK, MAIL_MASK = (1 << 2 * NUMBER_BITS) - 1, (1 << UID_SHIFT) - 1
 
 
-def mail_of(origin: int, at: int, flags: int) -> int:
+def mail_of(origin: int, rev: int, at: int, flags: int) -> int:
     """What an entry has but for its UID."""
-    return origin << ORIGIN_SHIFT | at << FLAG_BITS | flags
+    return rev << REV_SHIFT | origin << TEXT_SHIFT | at << FLAG_BITS | flags
+
+
+def rev_in(mail: int) -> int:
+    return mail >> REV_SHIFT & NUMBER_MASK
 
 
 class Entry(NamedTuple):
     uid: int
     key: int
     origin: int
+    rev: int
     flags: int
     at: int
 
@@ -88,7 +103,7 @@ class Box:
 
     def entries(self) -> Iterator[Entry]:
         for key, it in self.mail.items():
-            yield Entry(it >> UID_SHIFT, key, it >> ORIGIN_SHIFT & ORIGIN_MASK, it & FLAG_MASK, it >> FLAG_BITS & MOMENT_MASK)
+            yield Entry(it >> UID_SHIFT, key, it >> TEXT_SHIFT & NUMBER_MASK, rev_in(it), it & FLAG_MASK, it >> FLAG_BITS & MOMENT_MASK)
 
 
 class Outcome(NamedTuple):
@@ -175,11 +190,12 @@ class MailStore:
 
     def __init__(self, house: House, aliases: Iterable[tuple[str, tuple[int, ...]]]) -> None:
         self.house = house
-        self.aliases = dict(aliases)
+        self.aliases = list(aliases)  # by local part, unless a base had them otherwise
+        self.rises = all(one[0] <= two[0] for one, two in zip(self.aliases, self.aliases[1:]))
+        self.by_local: Optional[dict[str, tuple[int, ...]]] = None  # of each local part the first, found when it is asked for
         self.filters: list[Filter] = []
         self.decider = Decider([])
         self.boxes: list[dict[str, Box]] = [{INBOX: Box(), LOST_FOUND: Box()} for _ in house.users]
-        self.revs: dict[int, int] = {}  # of texts that a cycle replaced
         self.meant: dict[str, tuple[int, ...]] = {}
 
     # whom a local part means
@@ -190,9 +206,18 @@ class MailStore:
         if found is None:
             name = local.lower()
             user = self.house.numbers.get(name)
-            found = (user,) if user is not None else (self.house.postmaster,) if name == 'postmaster' else self.aliases.get(name, ())
+            found = (user,) if user is not None else (self.house.postmaster,) if name == 'postmaster' else self.users_of(name)
             self.meant[local] = found
         return found
+
+    def users_of(self, local: str) -> tuple[int, ...]:
+        if self.by_local is None:
+            self.by_local = dict(reversed(self.aliases))
+        return self.by_local.get(local, ())
+
+    def with_aliases(self, aliases: list[tuple[str, tuple[int, ...]]]) -> Outcome:
+        self.aliases, self.by_local, self.meant = aliases, None, {}
+        return NOTHING
 
     # one item
 
@@ -201,8 +226,6 @@ class MailStore:
 
     def deliver(self, item: Item, deed: Deliver) -> Outcome:
         decided = self.decider.decides(deed)
-        if item.rev:
-            self.revs[item.number] = item.rev
         if decided is not None and decided.file is None:
             return Outcome(decided)
         name = INBOX if decided is None else decided.file
@@ -212,7 +235,7 @@ class MailStore:
             meant = self.resolved(local)
             users.update(meant)
             unknown = unknown or not meant
-        key, mail = item.number << 16, mail_of(item.number, item.at, 0)
+        key, mail = item.number << 16, mail_of(item.number, item.rev, item.at, 0)
         put = []
         for user in sorted(users):
             boxes = self.boxes[user]
@@ -226,10 +249,8 @@ class MailStore:
 
     def bring(self, item: Item, user: int, name: str, other: str, flags: int, at: int) -> Outcome:
         """One message, into this mailbox or where it is missing into the other."""
-        if item.rev:
-            self.revs[item.number] = item.rev
         its = name if name in self.boxes[user] else other
-        self.boxes[user][its].put(item.number << 16, mail_of(item.number, at, flags))
+        self.boxes[user][its].put(item.number << 16, mail_of(item.number, item.rev, at, flags))
         return Outcome(None, ((user, its, item.number << 16),))
 
     def fetch(self, item: Item, deed: Fetch) -> Outcome:
@@ -324,14 +345,13 @@ class MailStore:
         return Outcome(None, (), tuple((item.by, deed.box, key) for key in mail if key in keys))
 
     def set_alias(self, item: Item, deed: SetAlias) -> Outcome:
-        self.aliases[deed.local] = tuple(sorted(set(deed.users)))
-        self.meant = {}
-        return NOTHING
+        place = bisect_left(self.aliases, (deed.local,)) if self.rises else next((at for at, (local, _) in enumerate(self.aliases) if local >= deed.local), len(self.aliases))
+        behind = place + 1 if place < len(self.aliases) and self.aliases[place][0] == deed.local else place
+        self.aliases[place:behind] = [(deed.local, tuple(sorted(set(deed.users))))]
+        return self.with_aliases(self.aliases)
 
     def drop_alias(self, item: Item, deed: DropAlias) -> Outcome:
-        self.aliases.pop(deed.local, None)
-        self.meant = {}
-        return NOTHING
+        return self.with_aliases([it for it in self.aliases if it[0] != deed.local])
 
     def with_filters(self, filters: list[Filter]) -> Outcome:
         self.filters, self.decider = filters, Decider(filters)
@@ -363,8 +383,8 @@ class MailStore:
         return {} if box is None else box.mail
 
     def shows_fetch(self, user: int, deed: Fetch) -> bytes:
-        mail, revs = self.mail_at(user, deed.box), self.revs
-        return b''.join(key.to_bytes(6, 'big') + revs.get(mail[key] >> ORIGIN_SHIFT & ORIGIN_MASK, 0).to_bytes(4, 'big') for key in keys_in(deed.keys) if key in mail)
+        mail = self.mail_at(user, deed.box)
+        return b''.join(key.to_bytes(6, 'big') + rev_in(mail[key]).to_bytes(4, 'big') for key in keys_in(deed.keys) if key in mail)
 
     def there(self, user: int, name: str, keys: bytes) -> bytes:
         mail = self.mail_at(user, name)
@@ -386,28 +406,21 @@ class MailStore:
 
     def snapshot(self, count: int) -> Iterator[bytes]:
         """The payload of the Snapshot record of this store, behind so many items, in pieces. Where each filter looks at the whole text it tells no scopes."""
-        def name(it: str) -> bytes:
-            return bytes([len(it)]) + it.encode('ascii')
-        def u32(it: int) -> bytes:
-            return it.to_bytes(4, 'big')
-        def scope(it: Filter) -> bytes:
-            return bytes([SCOPES.index(it.scope)]) + (name(it.field) if it.field else b'')
         scoped = any(it.scope != BODY for it in self.filters)
-        yield bytes([journal.SCOPED_SNAPSHOT if scoped else journal.SNAPSHOT]) + u32(count) + u32(len(self.aliases))
-        for local in sorted(self.aliases):
-            yield name(local) + u32(len(self.aliases[local])) + bytes(self.aliases[local])
-        yield u32(len(self.filters))
-        for it in self.filters:
-            yield name(it.name) + name(it.needle) + (b'\0' if it.file is None else b'\1' + name(it.file)) + (scope(it) if scoped else b'')
+        yield bytes([journal.SCOPED_SNAPSHOT if scoped else journal.SNAPSHOT]) + u32(count) + spelled_aliases(self.aliases)
+        yield spelled_filters(self.filters, scoped)
+        yield from self.rows()
+
+    def rows(self) -> Iterator[bytes]:
+        """The mailboxes, as a record lists them."""
         yield u32(sum(len(boxes) for boxes in self.boxes))
-        pack, revs = ENTRY.pack, self.revs
+        pack = ENTRY.pack
         for user, boxes in enumerate(self.boxes):
-            for box_name in sorted(boxes):
-                box = boxes[box_name]
-                yield bytes([user]) + name(box_name) + box.following.to_bytes(8, 'big') + u32(len(box.mail))
+            for name in sorted(boxes):
+                box = boxes[name]
+                yield bytes([user]) + spelled_name(name) + box.following.to_bytes(8, 'big') + u32(len(box.mail))
                 for key, it in box.mail.items():
-                    origin = it >> ORIGIN_SHIFT & ORIGIN_MASK
-                    yield pack(it >> UID_SHIFT, key >> 16, key & 0xffff, origin, revs.get(origin, 0), it & FLAG_MASK, it >> FLAG_BITS & MOMENT_MASK)
+                    yield pack(it >> UID_SHIFT, key >> 16, key & 0xffff, it >> TEXT_SHIFT & NUMBER_MASK, rev_in(it), it & FLAG_MASK, it >> FLAG_BITS & MOMENT_MASK)
 
     def digest(self, count: int) -> str:
         found = hashlib.sha256()
@@ -416,7 +429,7 @@ class MailStore:
         return found.hexdigest()
 
     @classmethod
-    def of_snapshot(cls, house: House, it: Snapshot) -> MailStore:
+    def of_rows(cls, house: House, it: Union[Snapshot, Base]) -> MailStore:
         found = cls(house, it.aliases)
         found.with_filters(list(it.filters))
         found.boxes = [{} for _ in house.users]
@@ -425,9 +438,7 @@ class MailStore:
             box.following = row.following
             mail = box.mail
             for uid, item, index, origin, rev, flags, at in ENTRY.iter_unpack(row.entries):
-                mail[item << 16 | index] = uid << UID_SHIFT | mail_of(origin, at, flags)
-                if rev:
-                    found.revs[origin] = rev
+                mail[item << 16 | index] = uid << UID_SHIFT | mail_of(origin, rev, at, flags)
         return found
 
     def messages(self) -> int:
@@ -533,10 +544,38 @@ class Done:
     place: int
     following: int
     broken: list[tuple[Item, str]]
+    withdraws: bool = False
+
+
+@dataclasses.dataclass
+class Undone:
+    """What the last cycle put away: what stood behind its point before, and how many items stood before its notices after it."""
+
+    cycle: int
+    point: int
+    position: int
+    later: array
+    placed: int
+    texts: dict[int, Optional[tuple[int, Body]]]  # rev and text that items had whose text it replaced; none where it was their first
+
+
+@dataclasses.dataclass
+class Front:
+    """A base and the texts and kept items behind it, while they are read: whether the base can stand is known behind the last of them."""
+
+    gate: int
+    base: Base
+    bodies: set[tuple[int, int]]  # that its entries name
+    numbers: set[int]  # the items of its keys, and the origins of its bodies
+    last: type = Base
 
 
 class NoPoint(Exception):
     """The timeline does not have the point of a cycle."""
+
+
+class NoCycle(Exception):
+    """There is no cycle to be withdrawn, or it is another one."""
 
 
 class NoNumbers(Exception):
@@ -553,7 +592,11 @@ class Past:
         self.records = 0
         self.house: House
         self.timeline = array('I')
-        self.places, self.lengths = array('Q'), array('I')
+        self.drawn = 0  # the first number that this journal draws
+        self.places, self.lengths = array('Q'), array('I')  # of the records of these numbers
+        self.front: Optional[Front] = None
+        self.kept: dict[int, Frame] = {}  # items that a cut kept
+        self.texts: dict[tuple[int, int], Frame] = {}  # the texts of the base, by item and rev
         self.made: dict[int, Item] = {}  # acts that cycles brought in, and notices
         self.replaced: dict[int, tuple[int, Body]] = {}  # rev and text of items whose text a cycle replaced
         self.acts: dict[int, Deed] = {}  # what the operator did, by number
@@ -563,8 +606,10 @@ class Past:
         self.base: Callable[[], MailStore]
         self.following = 0
         self.reports: dict[str, dict[str, Any]] = {}
+        self.spelled: dict[str, Told] = {}  # the same, as a base has them
         self.marks: list[tuple[int, Frame]] = []  # snapshots from which a cycle can begin, by how many items they are of
         self.snapshots = 0
+        self.undone: Optional[Undone] = None  # what the last cycle put away, until it is withdrawn
         self.upgraded: Optional[int] = None  # since when names may have superiors
         self.allowance = 1 << 22  # octets of snapshots that are still compared: so many more with each item, so that reading takes steps by items
 
@@ -591,23 +636,19 @@ class Past:
                 if seen:
                     seen(self.format, frame, NOTHING)
             elif frame.kind in journal.SNAPSHOTS:
+                if self.front:
+                    self.journal.record(frame)  # what spells no record is told before the base
+                    self.settle()
                 self.take_snapshot(frame, seen)
             else:
                 found = self.journal.record(frame)
-                if type(found) is Cycle:
-                    done = self.rewind(found, frame)
-                    if seen:
-                        seen(found, frame, done)
-                elif type(found) is Upgrade:
-                    self.upgrade(found, frame)
-                    if seen:
-                        seen(found, frame, NOTHING)
-                elif type(found) is Format:
-                    raise Damaged(frame.place - 5, frame.place, 'a second Format record')
-                else:
-                    outcome = self.enter(found, frame)
-                    if seen:
-                        seen(found, frame, outcome)
+                if self.front and type(found) not in (Text, Kept):
+                    self.settle()
+                outcome = getattr(self, TAKES[type(found)])(found, frame)
+                if seen:
+                    seen(found, frame, outcome)
+        if self.front:
+            self.settle()
         return self
 
     def begin(self, frame: Frame) -> None:
@@ -617,15 +658,97 @@ class Past:
         users = len(it.accounts)
         if not is_house(it):
             raise Damaged(frame.place - 5, frame.place, 'the Format record is no house')
-        self.format, self.house, self.following, self.users = it, House(it), it.first, users
+        self.head, self.format, self.house, self.following, self.drawn, self.users = frame, it, House(it), it.first, it.first, users
         self.base = lambda: MailStore(self.house, it.aliases)
         self.store = self.base()
         self.stamps = {(user, name): it.first - 1 for user in range(users) for name in FIXED}
 
-    def upgrade(self, it: Upgrade, frame: Frame) -> None:
+    def begin_again(self, it: Format, frame: Frame) -> Outcome:
+        raise Damaged(frame.place - 5, frame.place, 'a second Format record')
+
+    def upgrade(self, it: Upgrade, frame: Frame) -> Outcome:
         if self.upgraded is not None:
             raise Damaged(frame.place - 5, frame.place, 'a second Upgrade record')
         self.upgraded = it.at
+        return NOTHING
+
+    # what a cut left: a base, the texts of its messages, and the items behind it
+
+    def begin_from(self, it: Base, frame: Frame) -> Outcome:
+        if self.records != 2:
+            raise Damaged(frame.place - 5, frame.place, 'a Base record is the second or none')
+        entries = [row for box in it.boxes for row in ENTRY.iter_unpack(box.entries)]
+        keys = [(box.user, key[1:3]) for box in it.boxes for key in ENTRY.iter_unpack(box.entries)]
+        front = Front(frame.place - 5, it, {(row[3], row[4]) for row in entries}, {number for row in entries for number in (row[1], row[3])})
+        highest = max([number for row in entries for number in (row[1], row[3], row[4])] + [row.stamp for row in it.stamps], default=-1)
+        named = [row.user for row in it.stamps] + [row.user for _, told in it.reports for row in (*told.broken, *told.renewed)]
+        why = ('a Base has a number that is not below its next' if highest >= it.following else 'a next number that no journal has' if it.following > LAST_NUMBER + 1
+               else 'a Base names a user that the house does not have' if max(named, default=0) >= self.users
+               else 'the stamps or the keys of reports of a Base do not rise' if not (are_rising([row[:2] for row in it.stamps]) and are_rising([key for key, _ in it.reports]))
+               else 'a user has a message twice' if len(set(keys)) < len(keys) else None if self.makes_store(it) else 'the base is no store of this house')
+        if why:
+            raise Damaged(frame.place - 5, frame.place, why)
+        self.front, self.following, self.drawn, self.upgraded = front, it.following, it.following, LONG_AGO if it.deep else None
+        self.base = lambda: MailStore.of_rows(self.house, self.journal.record(frame, apart=True))
+        self.store = MailStore.of_rows(self.house, it)
+        self.stamps = {(row.user, row.name): row.stamp for row in it.stamps}
+        self.spelled = dict(it.reports)
+        self.reports = {key: self.report_of(told) for key, told in it.reports}
+        return NOTHING
+
+    def report_of(self, it: Told) -> dict[str, Any]:
+        """A report of a base as the console has it."""
+        users = self.house.users
+        return {
+            'broken': [{'item': row.number, 'reason': REASONS[row.reason], 'user': users[row.user], 'verb': VERB_OF[row.verb]} for row in it.broken],
+            'cycle': it.cycle, 'kept': it.kept, 'notices': list(it.notices), 'point': it.point,
+            'renewed': [{'box': row.name, 'stamp': row.stamp, 'user': users[row.user]} for row in it.renewed], 'unmatched': list(it.unmatched),
+        }
+
+    def take_text(self, it: Text, frame: Frame) -> Outcome:
+        front, body = self.front, (it.origin, it.rev)
+        if not front or front.last is Kept:
+            raise Damaged(frame.place - 5, frame.place, 'a Text stands behind neither a Base nor a Text')
+        if body not in front.bodies or body in self.texts:
+            raise Damaged(frame.place - 5, frame.place + 1, 'a Text of no message of the base, or a second one')
+        front.last, self.texts[body] = Text, frame
+        return NOTHING
+
+    def keep(self, it: Kept, frame: Frame) -> Outcome:
+        front, deed = self.front, it.deed
+        kind = type(deed)
+        if not front:
+            raise Damaged(frame.place - 5, frame.place, 'a Kept stands behind neither a Base nor a Text nor a Kept')
+        if it.number >= self.following or it.rev >= self.following or it.number in front.numbers or it.number in self.kept:
+            raise Damaged(frame.place - 5, frame.place + 1, 'a Kept has a number that is used, or one that is not below the next')
+        acts = users_in(deed) if it.by is None else (it.by,)
+        if (it.by is None) != (kind is Deliver or kind in OF_NOBODY) or any(user >= self.users for user in acts):
+            raise Damaged(frame.place - 5, frame.place + 13, 'who acts, or a user that is named, is none who can')
+        front.last, self.kept[it.number] = Kept, frame
+        if kind in OF_NOBODY and kind is not Notice:
+            self.acts[it.number] = without_text(deed)
+        outcome = PERFORM[kind](self.store, Item(it.number, it.at, it.by, it.rev, deed), deed)
+        self.timeline.append(it.number)
+        self.allowance += 128
+        return outcome
+
+    def settle(self) -> None:
+        """Whether the base can stand, behind the texts and items that follow it."""
+        front, self.front = self.front, None
+        if any(body not in self.texts for body in front.bodies):
+            raise Damaged(front.gate, front.gate + 5, 'a text of the base is missing')
+        if set(self.stamps) != {(user, name) for user, boxes in enumerate(self.store.boxes) for name in boxes}:
+            raise Damaged(front.gate, front.gate + 5, 'the stamps of a Base are not those of the mailboxes')
+
+    def text_before(self, origin: int, rev: int) -> Optional[Body]:
+        """The text of a message of the base."""
+        frame = self.texts.get((origin, rev))
+        return None if frame is None else self.journal.record(frame, apart=True).body
+
+    def text_of(self, origin: int, rev: int, in_force: Container[int]) -> Optional[Body]:
+        """The text of a message: of the item in force that brought it, or else of the base."""
+        item = self.item(origin) if origin in in_force else None
+        return item.body if item is not None and item.rev == rev and item.body is not None else self.text_before(origin, rev)
 
     def take_snapshot(self, frame: Frame, seen: Any) -> None:
         head = self.journal.octets.apart(frame.place, SNAPSHOT_HEAD)
@@ -646,6 +769,10 @@ class Past:
 
     def can_keep(self, it: Snapshot, frame: Frame) -> None:
         """Whether a snapshot that is not true makes a store of the house all the same: then it is passed, and else no record."""
+        if not self.makes_store(it):
+            raise Damaged(frame.place - 5, frame.place, 'the snapshot is of no store of this house')
+
+    def makes_store(self, it: Union[Snapshot, Base]) -> bool:
         users = len(self.house.users)
         rows = [(row.user, row.name) for row in it.boxes]
         there = set(rows)
@@ -653,8 +780,7 @@ class Past:
         fixed = all((user, name) in there for user in range(users) for name in FIXED)
         named = all(max(meant, default=0) < users for _, meant in it.aliases)
         above = all((user, superior) in there for user, name in rows for superior in with_superiors(name)[:-1])
-        if not (rises and fixed and named and above and all(uids_rise(row) for row in it.boxes)):
-            raise Damaged(frame.place - 5, frame.place, 'the snapshot is of no store of this house')
+        return rises and fixed and named and above and all(uids_rise(row) for row in it.boxes)
 
     def is_true(self, frame: Frame) -> bool:
         """Whether a snapshot's octets are those of the store as it is read by now: a cycle begins from no other."""
@@ -671,7 +797,7 @@ class Past:
             fits = kind is Deliver if by is None else by < self.users and kind is not Deliver
         else:
             by, fits = None, all(user < self.users for user in users_in(deed))
-            self.acts[number] = deed if kind is not Give else Give(deed.user, deed.box, Body(b'', 0))
+            self.acts[number] = without_text(deed)
         if number != self.following or number > LAST_NUMBER:
             raise Damaged(frame.place - 5, frame.place + 1, f'the record has the number {number}, and the next is {self.following}')
         if not fits:
@@ -698,13 +824,16 @@ class Past:
         return found
 
     def has(self, number: int) -> bool:
-        return self.house.first <= number < self.following and (number in self.made or self.places[number - self.house.first] != 0)
+        return number in self.kept or number in self.made or self.drawn <= number < self.following and self.places[number - self.drawn] != 0
 
     def item(self, number: int, apart: bool = True) -> Item:
         """An item as it is in force, with its text."""
         found = self.made.get(number)
-        if found is None:
-            place = number - self.house.first
+        if found is None and number in self.kept:
+            record = self.journal.record(self.kept[number], apart)
+            found = Item(number, record.at, record.by, record.rev, record.deed)
+        elif found is None:
+            place = number - self.drawn
             record = self.journal.record(Frame(self.places[place], self.lengths[place], 0), apart)
             found = Item(number, record.at, record.by if type(record) is Verb else None, 0, record.deed)
         if number in self.replaced:
@@ -731,11 +860,25 @@ class Past:
         self.leave(it.key, done)
         return done
 
+    def give_back(self, it: Withdraw, frame: Frame) -> Done:
+        if it.number != self.following or it.number > LAST_NUMBER:
+            raise Damaged(frame.place - 5, frame.place + 1, f'the record has the number {it.number}, and the next is {self.following}')
+        if it.key in self.reports:
+            raise Damaged(frame.place - 5, frame.place + 13, 'an earlier cycle had this key')
+        try:
+            done = self.withdrawn(it.of, it.at)
+        except (NoCycle, NoNumbers) as fault:
+            raise Damaged(frame.place - 5, frame.place, 'the cycle is not the last one' if isinstance(fault, NoCycle) else 'too few numbers were left for a withdrawal') from None
+        self.leave(it.key, done)
+        return done
+
     def leave(self, key: str, done: Done) -> None:
         """What is kept after a cycle."""
         number = self.following
+        later = self.timeline[done.place:]
+        self.undone = None if done.withdraws else Undone(number, done.report['point'], done.place, later, len(done.timeline) - len(done.report['notices']), {it: self.replaced.get(it) for it in done.replaced})
         self.store, self.stamps, self.timeline, self.following = done.store, done.stamps, done.timeline, done.following
-        self.reports[key] = done.report
+        self.reports[key], self.spelled[key] = done.report, self.told_of(done)
         self.answers.update(done.answers)
         self.replaced.update({item: (number, body) for item, body in done.replaced.items()})
         self.made.update({item.number: item for item in done.made})
@@ -744,6 +887,12 @@ class Past:
             self.places.append(0)
             self.lengths.append(0)
         self.marks = [it for it in self.marks if it[0] <= done.place]
+
+    def told_of(self, done: Done) -> Told:
+        """A report as a base has it."""
+        it, numbers = done.report, self.house.numbers
+        broken = tuple(BrokenRow(item.number, item.by, BYTE_OF[type(item.deed)], box_named(item.deed), REASONS.index(reason)) for item, reason in done.broken)
+        return Told(it['cycle'], it['point'], it['kept'], broken, tuple(it['notices']), tuple(Stamp(numbers[row['user']], row['box'], row['stamp']) for row in it['renewed']), tuple(it['unmatched']))
 
     def position(self, point: int) -> int:
         if point == 0:
@@ -760,7 +909,7 @@ class Past:
             return self.base(), 0
         count, frame = max(usable, key=lambda it: it[0])
         found = self.journal.record(frame, apart=True)
-        return MailStore.of_snapshot(self.house, found), count
+        return MailStore.of_rows(self.house, found), count
 
     def cycle(self, ask: Ask, at: int, tell: Callable[[str], None] = lambda said: None) -> Done:
         """What a cycle leaves that runs now, and its report. Nothing here changes."""
@@ -772,6 +921,12 @@ class Past:
         kept = array('I', (it for it in later if it not in drops))
         replaced = {it: ask.replaces[it] for it in kept if it in ask.replaces and self.takes_text(it)} if ask.replaces else {}
         timeline = self.timeline[:place] + array('I', (item.number for item in made)) + kept
+        unmatched = [it for it in ask.drops if it not in drops.intersection(later)] + [it for it in ask.asked if it not in replaced]
+        return self.settled(ask.point, place, timeline, made, replaced, later, drops, unmatched, at, tell)
+
+    def settled(self, point: int, place: int, timeline: array, made: list[Item], replaced: dict[int, Body], later: array, drops: set[int], unmatched: list[int], at: int, tell: Callable[[str], None]) -> Done:
+        """A repaired list performed: who is told, the notices, the stamps and the report."""
+        number, kept = self.following, len(timeline) - place - len(made)
         store, reasons, answers = self.replayed(timeline, place, made, replaced, tell)
         told = self.judged(later, drops, reasons)
         notices = self.notices_of(number, len(made), at, told)
@@ -779,14 +934,29 @@ class Past:
             store.perform(item)
         timeline.extend(item.number for item in notices)
         stamps = self.renewed(store, number)
-        gone = drops.intersection(later)
         report = {
             'broken': [{'item': item.number, 'reason': reason, 'user': self.house.users[item.by], 'verb': item.verb} for item, reason in told],
-            'cycle': number, 'kept': len(kept), 'notices': [item.number for item in notices], 'point': ask.point,
+            'cycle': number, 'kept': kept, 'notices': [item.number for item in notices], 'point': point,
             'renewed': [{'box': name, 'stamp': number, 'user': self.house.users[user]} for user, name in sorted(stamps) if stamps[user, name] == number],
-            'unmatched': [it for it in ask.drops if it not in gone] + [it for it in ask.asked if it not in replaced],
+            'unmatched': unmatched,
         }
         return Done(report, store, stamps, timeline, made + notices, replaced, answers, place, number + 1 + len(made) + len(notices), told)
+
+    def withdrawn(self, of: int, at: int, tell: Callable[[str], None] = lambda said: None) -> Done:
+        """What a withdrawal of the last cycle leaves that runs now, and its report. Texts that the cycle replaced are those of before from here on."""
+        last = self.undone
+        if last is None or last.cycle != of:
+            raise NoCycle
+        if self.following + 1 + len(self.house.users) > LAST_NUMBER:
+            raise NoNumbers
+        for number, before in last.texts.items():
+            if before is None:
+                del self.replaced[number]
+            else:
+                self.replaced[number] = before
+        timeline = self.timeline[:last.position] + last.later + self.timeline[last.placed:]
+        done = self.settled(last.point, last.position, timeline, [], {}, timeline[last.position:], set(), [], at, tell)
+        return dataclasses.replace(done, withdraws=True)
 
     def replayed(self, timeline: array, place: int, made: list[Item], replaced: dict[int, Body], tell: Callable[[str], None]) -> tuple[MailStore, dict[int, tuple[Item, str]], dict[int, Any]]:
         """The store that repaired items lead to; of later ones those that no longer hold, with why, and what they show now."""
@@ -837,7 +1007,7 @@ class Past:
         for user, boxes in enumerate(after.boxes):
             for name, box in boxes.items():
                 old = self.store.boxes[user].get(name)
-                found[user, name] = self.stamps[user, name] if old is not None and extends(old, self.store.revs, box, after.revs) else cycle
+                found[user, name] = self.stamps[user, name] if old is not None and extends(old, box) else cycle
         return found
 
     def fold(self, seen: Callable[[Item, Outcome, MailStore], None], tell: Callable[[str], None] = lambda said: None) -> None:
@@ -852,25 +1022,25 @@ class Past:
     # what is counted
 
     def counts(self) -> dict[str, int]:
-        told = {number for number, item in self.made.items() if type(item.deed) is Notice}
+        told = {number for number, item in self.made.items() if type(item.deed) is Notice} | {number for number, frame in self.kept.items() if self.is_notice(frame)}
         notices = sum(1 for number in self.timeline if number in told) if told else 0
         return {'cycles': len(self.reports), 'items': len(self.timeline), 'messages': self.store.messages(), 'next': self.following, 'notices': notices, 'users': len(self.house.users)}
+
+    def is_notice(self, frame: Frame) -> bool:
+        return self.journal.octets.apart(frame.place + KEPT_DEED, 1) == bytes([journal.KEPT_NOTICE])
 
     def digest(self) -> str:
         return self.store.digest(len(self.timeline))
 
 
-def extends(old: Box, old_revs: dict[int, int], new: Box, new_revs: dict[int, int]) -> bool:
+def extends(old: Box, new: Box) -> bool:
     if new.following < old.following:
         return False
     for key, it in new.mail.items():
         if it >> UID_SHIFT >= old.following:
             continue
         was = old.mail.get(key)
-        if was is None or was >> UID_SHIFT != it >> UID_SHIFT:
-            return False
-        origin = it >> ORIGIN_SHIFT & ORIGIN_MASK
-        if was >> ORIGIN_SHIFT & ORIGIN_MASK != origin or old_revs.get(origin, 0) != new_revs.get(origin, 0):
+        if was is None or was >> UID_SHIFT != it >> UID_SHIFT or was >> TEXT_SHIFT & TEXT_MASK != it >> TEXT_SHIFT & TEXT_MASK:
             return False
     return True
 
@@ -898,9 +1068,27 @@ def uids_rise(row: journal.SnapshotBox) -> bool:
     return before < row.following
 
 
+def are_rising(rows: list[Any]) -> bool:
+    return all(one < two for one, two in zip(rows, rows[1:]))
+
+
+def item_of(record: Any) -> Optional[Item]:
+    """The item that a record has whole; none of a record of another kind."""
+    kind = type(record)
+    if kind is Verb or kind is Operator:
+        return Item(record.number, record.at, record.by if kind is Verb else None, 0, record.deed)
+    return Item(*record) if kind is Kept else None
+
+
+def without_text(deed: Deed) -> Deed:
+    return Give(deed.user, deed.box, Body(b'', 0)) if type(deed) is Give else deed
+
+
 def users_in(deed: Deed) -> tuple[int, ...]:
-    """The users that an act names."""
+    """The users that an act or a notice names."""
     if type(deed) is SetAlias:
         return deed.users
-    return (deed.user,) if type(deed) in (Remove, Give) else ()
+    return (deed.user,) if type(deed) in (Remove, Give, Notice) else ()
 
+
+TAKES = {Format: 'begin_again', Verb: 'enter', Operator: 'enter', Cycle: 'rewind', Withdraw: 'give_back', Upgrade: 'upgrade', Base: 'begin_from', Text: 'take_text', Kept: 'keep'}

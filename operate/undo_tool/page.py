@@ -13,13 +13,14 @@ from typing import Any, Callable, Optional
 from .asked import idle_parts, is_number, refuse, shape_faults, store_faults
 from .console import Console, Timeline, accepted
 from .copies import same_file
-from .cycles import naming_of, prepared, run_cycle
+from .cycles import naming_of, prepared, run_cycle, withdraw, withdrawal_told
 from .formats import LARGEST_REQUEST, MEANINGS, PAGE_OF_ITEMS
 from .history import Telling, addressed_to, opened, reading, touched_by, who_read
 from .journal import SetFilter
 from .journal_commands import delivery_text, set_by, touched_by_head, who_read_text
 from .mail import Message, message_of
 from .model import NOTHING, Past
+from .told import effects_text, report_text
 from .troubles import NO_SERVER, WRONG_WORDS, Trouble
 
 with open(os.path.join(os.path.dirname(os.path.abspath(__file__)), 'page.html'), encoding='utf-8') as _page:
@@ -63,6 +64,8 @@ class PageServer(http.server.ThreadingHTTPServer):
             ('POST', r'/api/check', self.check),
             ('POST', r'/api/try', self.tried),
             ('POST', r'/api/run', self.run),
+            ('GET', r'/api/withdrawal/(\d+)', lambda cycle: self.withdrawal(int(cycle))),
+            ('POST', r'/api/withdraw', self.withdraw),
         ]
 
     def message(self, number: int) -> dict[str, Any]:
@@ -190,6 +193,18 @@ class PageServer(http.server.ThreadingHTTPServer):
         with self.one_run:
             naming = naming_of(self.console, self.checked(request, True), self.store, self.console.tell)
             outcome = run_cycle(self.console, request, self.keep, naming.kept())
+        return {'report': outcome.report, 'repeated': outcome.repeated, 'kept': outcome.kept, 'fault': outcome.fault}
+
+    def withdrawal(self, cycle: int) -> dict[str, Any]:
+        """What taking a cycle back would do to whom, as far as it can be told."""
+        effects, said = withdrawal_told(cycle, self.store, self.keep, self.console.tell)
+        return {'told': '\n\n'.join([said, *([effects_text(effects, False), report_text(effects.report, False, False, 'withdrawal')] if effects else [])])}
+
+    def withdraw(self, asked: Any) -> dict[str, Any]:
+        if not isinstance(asked, dict) or not is_number(asked.get('of')) or not isinstance(asked.get('key'), str):
+            raise Trouble(WRONG_WORDS, 'This is no request for a withdrawal.')
+        with self.one_run:
+            outcome = withdraw(self.console, asked['key'], asked['of'], self.keep)
         return {'report': outcome.report, 'repeated': outcome.repeated, 'kept': outcome.kept, 'fault': outcome.fault}
 
 

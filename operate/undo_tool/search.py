@@ -8,7 +8,7 @@ from . import model
 from .console import Console, Item, Timeline, Wanted
 from .formats import WITH_TEXT
 from .history import opened, reading
-from .journal import Deliver, Operator, Verb
+from .journal import Deliver
 from .mail import Message, message_of, text_of
 from .model import Past, box_named
 
@@ -82,8 +82,9 @@ def find_in(path: str, wanted: Wanted, sought: Sought, tell: Any) -> tuple[list[
             head = message.summary()
             found.append(Found(item, head if sender is None else {**head, 'from': sender, 'to': ', '.join(it.deed.recipients)}))
     def happened(record: Any, frame: Any, outcome: Any) -> None:
-        if type(record) is Verb or type(record) is Operator:
-            seen(model.Item(record.number, record.at, record.by if type(record) is Verb else None, 0, record.deed), outcome, past.store)
+        item = model.item_of(record)
+        if item is not None:
+            seen(item, outcome, past.store)
     with opened(path) as journal:
         past = Past(journal)
         reading(past, happened, tell)

@@ -65,10 +65,10 @@ def folded(lines: list[str], everything: bool, indent: str = '  ', most: int = F
     return [*lines[:most], f'{indent}.. and {len(lines) - most:,} more (--all shows them)']
 
 
-def report_text(report: dict[str, Any], done: bool, everything: bool = True) -> str:
+def report_text(report: dict[str, Any], done: bool, everything: bool = True, what: str = 'cycle') -> str:
     """A report in words: who is told, for what and why; what is read anew; what did nothing."""
     number, users, kept = report['cycle'], by_user(report), report['kept']
-    would = 'A cycle would be number' if not done else 'It is cycle'
+    would = f'A {what} would be number' if not done else f'It is {what}'
     lines = [f'{would} {number}, back to point {report["point"]}. {counted(kept, "later item")} {"stayed" if done else "stays" if kept == 1 else "stay"}.', '']
     if users:
         items = f'{"item" if len(report["notices"]) == 1 else "items"} {", ".join(map(str, report["notices"]))}'
