@@ -1,17 +1,18 @@
 #!/usr/bin/env python3
-"""Runs the tool's lines ('$ undo ..') in the three stories of docs/OPERATING.md, each over a store as it is before its story's cycle, and compares the answers that stand there.
+"""Runs the tool's lines ('$ undo ..') in the stories of docs/OPERATING.md, each over a store as it is before its story's cycle or withdrawal, and compares the answers that stand there.
 
 usage: bench/operating.py PROGRAM             the answers that are others
        bench/operating.py PROGRAM --write     puts the real answers into the page
 
-Stores come from the stories' data cases (tests/cases/cycles/story-of-*), up to their first cycle. Of the names of kept files and of keys that the tool made the moment is not compared.
+Stores come from the stories' data cases (story-of-* of tests/cases/cycles and tests/cases/withdraw), up to their first cycle or withdrawal. Of the names of kept files and of keys that the tool made the moment is not compared.
 """
 import importlib.machinery, importlib.util, os, re, subprocess, sys, tempfile
 
 TOP = os.path.dirname(os.path.dirname(os.path.abspath(__file__)))
 PAGE = os.path.join(TOP, 'docs', 'OPERATING.md')
-# a story's heading, the case that has its script, and how the lines that begin a second store in it begin
-STORIES = {'### A filter by mistake': ('story-of-a-filter-by-mistake', None), '### An infected delivery': ('story-of-an-infected-delivery', "printf 'From: postmaster@mail.test\\n"), '### A wrong alias': ('story-of-a-wrong-alias', None)}
+# a story's heading, the case that has its script, how the lines that begin a second store in it begin, and what is asked behind the first store
+STORIES = {'### A filter by mistake': ('cycles/story-of-a-filter-by-mistake', None, ' POST /cycle '), '### An infected delivery': ('cycles/story-of-an-infected-delivery', "printf 'From: postmaster@mail.test\\n", ' POST /cycle '), '### A wrong alias': ('cycles/story-of-a-wrong-alias', None, ' POST /cycle '),
+           '### A cycle that was a mistake': ('withdraw/story-of-a-cycle-that-was-a-mistake', None, ' POST /withdraw ')}
 
 def loaded(path):
     loader = importlib.machinery.SourceFileLoader('undo_tests', path)
@@ -22,11 +23,11 @@ def loaded(path):
 
 tests = loaded(os.path.join(TOP, 'tests', 'undo'))
 
-def script(case):
-    """The lines of a story before its first cycle."""
-    text = open(os.path.join(TOP, 'tests', 'cases', 'cycles', case + '.case')).read()
+def script(case, until):
+    """The lines of a story before the first that asks so."""
+    text = open(os.path.join(TOP, 'tests', 'cases', case + '.case')).read()
     lines = text.partition('=== stdin\n')[2].partition('=== stdout')[0].splitlines()
-    return lines[:next(place for place, line in enumerate(lines) if ' POST /cycle ' in line)]
+    return lines[:next(place for place, line in enumerate(lines) if until in line)]
 
 def answered(server, command):
     """What a command line answers, with what is typed in the middle of it."""
@@ -50,11 +51,11 @@ def main():
     tests.PROGRAM = os.path.abspath(sys.argv[1])
     lines = open(PAGE).read().split('\n')
     changes = []
-    for heading, (case, second) in STORIES.items():
+    for heading, (case, second, until) in STORIES.items():
         start = lines.index(heading)
         end = next(place for place in range(start + 1, len(lines)) if lines[place].startswith('### '))
         stores, found = [tempfile.TemporaryDirectory() for _ in range(2)], list(lines_of_the_tool(lines, start, end))
-        with stores[0] as one, stores[1] as two, tests.Server(one, script(case)) as first, tests.Server(two, script(case)) as other:
+        with stores[0] as one, stores[1] as two, tests.Server(one, script(case, until)) as first, tests.Server(two, script(case, until)) as other:
             server = first
             for command, begins, ends in found:
                 if second and command.startswith(second): server = other

@@ -16,7 +16,7 @@ import concurrent.futures, os, subprocess, sys, tempfile
 PATH, NET, SEATS = 'crates/host_outside/src/path_file.rt', 'crates/host_outside/src/connection.rt', 'crates/host_outside/src/sockets.rt'
 PORTS, MAIN = 'crates/host_outside/src/listeners.rt', 'crates/undomail/src/main.rt'
 LINK, TELLING, LOGINS, TOLD = 'crates/host_outside/src/loop_link.rt', 'crates/host_outside/src/telling.rt', 'crates/host_outside/src/logins.rt', 'crates/host_outside/src/readiness.rt'
-REPLY, CLIENT, READER = 'crates/mail_loop/src/reply.rt', 'crates/mail_loop/src/smtp_turn.rt', 'crates/mail_loop/src/imap_turn.rt'
+REPLY, SPEAKS, READER = 'crates/mail_loop/src/reply.rt', 'crates/mail_loop/src/speaks.rt', 'crates/mail_loop/src/imap_turn.rt'
 CONSOLE, DIALOG = 'crates/console_session/src/reply.rt', 'crates/smtp_session/src/dialog.rt'
 WRONG = {
     'file-is-not-synced': (PATH, '.ok_or(Failed)?.sync_all()', '.ok_or(Failed)?.metadata().map(|_| ())'),
@@ -79,8 +79,8 @@ WRONG = {
     'answer-over-50000-octets-closes': (REPLY, '    reply.closes = match', '    if text.len() > 50000 {\n        reply.closes = true;\n        return;\n    }\n    reply.closes = match'),
     'line-over-1048576-octets-finds-no-memory': (DIALOG, '    match read_command(alloc, line) {', '    if line.long {\n        return Err(NoMemory);\n    }\n    match read_command(alloc, line) {'),
     'bad-line-closes': (READER, 'Ok(text) => say(reply, text.bytes(), false)', 'Ok(_) => reply.closes = true'),
-    'client-is-not-told-of-a-failed-seal': (CLIENT, '    match session.done(alloc, outcome) {', '    if matches!(outcome, Err(SubmitFault::Disk)) {\n        return close(session, reply);\n    }\n    match session.done(alloc, outcome) {'),
-    'reader-is-not-told-of-a-failed-seal': (READER, '    match done_with(alloc, desk, session, outcome) {', '    if matches!(outcome, Err(SubmitFault::Disk)) {\n        return close(session, reply);\n    }\n    match done_with(alloc, desk, session, outcome) {'),
+    'client-is-not-told-of-a-failed-seal': (SPEAKS, '        let out = self.done(alloc, outcome)?;', '        if matches!(outcome, Err(SubmitFault::Disk)) {\n            return Err(NoMemory);\n        }\n        let out = self.done(alloc, outcome)?;'),
+    'reader-is-not-told-of-a-failed-seal': (SPEAKS, '        let out = self.done(alloc, store, stamps, outcome)?;\n        Ok(of_imap(out))', '        if matches!(outcome, Err(SubmitFault::Disk)) {\n            return Err(NoMemory);\n        }\n        let out = self.done(alloc, store, stamps, outcome)?;\n        Ok(of_imap(out))'),
     'console-is-not-told-of-a-failed-seal': (CONSOLE, '    tell_only(alloc, 500, error_json(alloc, ErrorWord::Disk), After::Fails)', '    silent(alloc, After::Fails)'),
 }
 
