@@ -1,5 +1,6 @@
 #!/usr/bin/env python3
-"""Makes the groups of docs/MAP.md from crates.txt and the crates' heads: the drawing docs/map.svg, and the table between the page's two marks.
+"""Makes the groups of docs/MAP.md from crates.txt and the crates' heads: the drawing docs/map.svg, and the table between the page's two marks, which is
+the one table of the crates. docs/PROVED.md has the same groups and a heading for each crate in the same order, and this says where it has not.
 
 usage: bench/map.py            writes both
        bench/map.py --check    says whether they are as crates.txt has it, and writes nothing
@@ -11,7 +12,7 @@ import os, re, sys
 from xml.sax.saxutils import escape
 
 TOP = os.path.dirname(os.path.dirname(os.path.abspath(__file__)))
-PAGE, DRAWING, CRATES = (os.path.join(TOP, *path) for path in (('docs', 'MAP.md'), ('docs', 'map.svg'), ('crates.txt',)))
+PAGE, DRAWING, PROVED, CRATES = (os.path.join(TOP, *path) for path in (('docs', 'MAP.md'), ('docs', 'map.svg'), ('docs', 'PROVED.md'), ('crates.txt',)))
 BEGINS, ENDS = '<!-- groups, by bench/map.py -->\n', '<!-- end of the groups -->'
 COLOURS = 'e6e9ee dceefb d9f2e3 fdeccb f6dcdc e9dff5 d3f0ef fbe3f1 eef0c8 dfe3fb f3f5f8'.split()   # a group's, in their order; the last is the tests'
 WIDE, HIGH, ACROSS, DOWN, LEFT = 118, 26, 128, 78, 40   # a box, and the distance from one to the next
@@ -59,8 +60,18 @@ def head(name):
         if os.path.exists(path):
             said = re.match(r'((?://!.*\n)+)', open(path).read())
             text = ' '.join(line[3:].strip() for line in said[1].split('\n')) if said else ''
-            return re.split(r'(?<=\.) ', text.strip())[0].replace('|', '\\|')
+            return shortened(re.split(r'(?<=\.) ', text.strip())[0]).replace('|', '\\|')
     return ''
+
+def shortened(said):
+    """A cell has at most 40 words: of a longer sentence what stands before its first colon."""
+    return said if len(said.split()) <= 40 else said.partition(':')[0] + '.'
+
+def unproved():
+    """Why docs/PROVED.md is not in the groups of crates.txt, or none."""
+    wanted = [name for _, _, names in groups() for name in names]
+    got = re.findall(r'^### (\w+)$', open(PROVED).read(), re.M)
+    return None if got == wanted else f'its crates are not those of crates.txt, in order: {sorted(set(wanted) ^ set(got)) or "another order"}'
 
 def places(uses, layer, lines):
     """Where each crate stands in its layer: near those that use it, and then near those that it uses."""
@@ -113,5 +124,6 @@ def main():
         if sys.argv[1:]: sys.exit(f'{os.path.relpath(path, TOP)} is not as crates.txt has it: run bench/map.py')
         with open(path, 'w') as out: out.write(text)
         print(os.path.relpath(path, TOP))
+    if why := unproved(): sys.exit(f'docs/PROVED.md: {why}')
 
 main()
