@@ -1,8 +1,9 @@
 #!/usr/bin/env python3
 """Makes the groups of docs/MAP.md from crates.txt and the crates' heads: the drawing docs/map.svg, and the table between the page's two marks, which is
-the one table of the crates. docs/PROVED.md has the same groups and a heading for each crate in the same order, and this says where it has not.
+the one table of the crates; and in docs/PROVED.md, which has the same groups and a heading for each crate in the same order, the line below each heading
+that says what carries the crate, by its head.
 
-usage: bench/map.py            writes both
+usage: bench/map.py            writes all three
        bench/map.py --check    says whether they are as crates.txt has it, and writes nothing
 
 A group is what stands in crates.txt behind a line '# NAME: WHAT IT IS'. In the drawing a crate's layer is one above the highest of those that it
@@ -54,24 +55,33 @@ def straight(uses):
     return {name: [it for it in its if not any(it in under[other] for other in its)] for name, its in uses.items()}
 
 def head(name):
-    """The first sentence of a crate's head."""
+    """A crate's head."""
     for file in ('lib.rt', 'main.rt'):
         path = os.path.join(TOP, 'crates', name, 'src', file)
         if os.path.exists(path):
             said = re.match(r'((?://!.*\n)+)', open(path).read())
-            text = ' '.join(line[3:].strip() for line in said[1].split('\n')) if said else ''
-            return shortened(re.split(r'(?<=\.) ', text.strip())[0]).replace('|', '\\|')
+            return ' '.join(line[3:].strip() for line in said[1].split('\n')).strip() if said else ''
     return ''
+
+def what_it_is(name):
+    """The first sentence of its head."""
+    return shortened(re.split(r'(?<=\.) ', head(name))[0]).replace('|', '\\|')
+
+def carried(name):
+    """What its head says that carries it."""
+    said = re.search(r'What carries the crate: (.*)', head(name))
+    return f'What carries it: {said[1].strip()}' if said else None
 
 def shortened(said):
     """A cell has at most 40 words: of a longer sentence what stands before its first colon."""
     return said if len(said.split()) <= 40 else said.partition(':')[0] + '.'
 
-def unproved():
-    """Why docs/PROVED.md is not in the groups of crates.txt, or none."""
-    wanted = [name for _, _, names in groups() for name in names]
-    got = re.findall(r'^### (\w+)$', open(PROVED).read(), re.M)
-    return None if got == wanted else f'its crates are not those of crates.txt, in order: {sorted(set(wanted) ^ set(got)) or "another order"}'
+def proved():
+    """docs/PROVED.md with what carries each crate."""
+    text, wanted = open(PROVED).read(), [name for _, _, names in groups() for name in names]
+    got = re.findall(r'^### (\w+)$', text, re.M)
+    if got != wanted: sys.exit(f'docs/PROVED.md: its crates are not those of crates.txt, in order: {sorted(set(wanted) ^ set(got)) or "another order"}')
+    return re.sub(r'^### (\w+)\n\n(?:What carries it: .*\n\n)?', lambda at: f'### {at[1]}\n\n' + (f'{carried(at[1])}\n\n' if carried(at[1]) else ''), text, flags=re.M)
 
 def places(uses, layer, lines):
     """Where each crate stands in its layer: near those that use it, and then near those that it uses."""
@@ -109,7 +119,7 @@ def table(uses):
     lines, rows = straight(uses), ['| Crate | What it is | Stands on |', '|---|---|---|']
     for group, what, names in groups():
         rows.append(f'| **{group}** | *{what}* | |')
-        for name in names: rows.append(f'| {name} | {head(name)} | {", ".join(lines[name])} |')
+        for name in names: rows.append(f'| {name} | {what_it_is(name)} | {", ".join(lines[name])} |')
     return '\n'.join(rows) + '\n'
 
 def main():
@@ -118,12 +128,11 @@ def main():
     front, found, rest = page.partition(BEGINS)
     _, ends, back = rest.partition(ENDS)
     if not (found and ends): sys.exit(f'{PAGE} lacks its two marks')
-    wanted = {PAGE: front + BEGINS + table(uses) + ENDS + back, DRAWING: drawing(uses)}
+    wanted = {PAGE: front + BEGINS + table(uses) + ENDS + back, DRAWING: drawing(uses), PROVED: proved()}
     for path, text in wanted.items():
         if os.path.exists(path) and open(path).read() == text: continue
-        if sys.argv[1:]: sys.exit(f'{os.path.relpath(path, TOP)} is not as crates.txt has it: run bench/map.py')
+        if sys.argv[1:]: sys.exit(f'{os.path.relpath(path, TOP)} is not as crates.txt and the heads have it: run bench/map.py')
         with open(path, 'w') as out: out.write(text)
         print(os.path.relpath(path, TOP))
-    if why := unproved(): sys.exit(f'docs/PROVED.md: {why}')
 
 main()
