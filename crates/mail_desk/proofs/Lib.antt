@@ -4,6 +4,8 @@ pub mod BodyTexts
 pub mod Renoted
 pub mod Desks
 pub mod Stampings
+pub mod RowPlaces
+pub mod LaterRows
 pub mod Bases
 pub mod Going
 pub mod Readied

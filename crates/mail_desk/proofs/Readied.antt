@@ -1,5 +1,5 @@
 -- What is known of an item that is asked for, and of one for which all is ready.
-use Rattle.std.proofs.Common.{◌≡◌, ℕ, ◌<◌, ◌≤◌, ◌==◌, Bool, true, false, List, [], ◌∷◌, ◌++◌, Option, None, Some, Result, Ok, Err, IfOk, OnOk, unwrap_or, nat_lt, option_map, refl, ap, sym, subst, ◌∙◌, arith}
+use Rattle.std.proofs.Common.{◌≡◌, ℕ, ◌<◌, ◌≤◌, ◌==◌, Bool, true, false, List, [], ◌∷◌, ◌++◌, Option, None, Some, Result, Ok, Err, IfOk, OnOk, length, nat_lt, option_map, refl, ap, sym, subst, ◌∙◌, arith}
 use Rattle.std.proofs.lemmas.Bool.Decides.{nat_tests}
 use Rattle.undo_base.specs.declared.keys.User.{User}
 use Rattle.undo_base.specs.declared.memory.NoMemory.{NoMemory as MemoryWant}
@@ -23,6 +23,7 @@ use Rattle.mail_desk.specs.declared.ready.Ready.{Ready}
 use Rattle.store_kept.specs.Kept.{store_of}
 use Rattle.mail_desk.specs.Entering.{CanEnter}
 use Rattle.mail_desk.specs.Held.{Held}
+use Rattle.mail_desk.specs.Stamping.{HasSpare, restamped}
 
 -- ---- what is asked for
 
@@ -84,19 +85,21 @@ pub can_enter : (r : Result Ready MemoryWant) (held : Held) (item : Item) → Is
     → IfOk r (λ ready. ready.item ≡ item)
     → IfOk r (λ ready. ready.stored ≡ item)
     → IfOk r (λ ready. applied ready.effect (store_of held.kept) ≡ (step (store_of held.kept) item).0)
-    → IfOk r (λ ready. unwrap_or ready.stamps held.kept.stamps ≡ stamps_after item.number (step (store_of held.kept) item).0.boxes held.kept.stamps)
+    → IfOk r (λ ready. restamped ready.stamps held.kept.stamps ≡ stamps_after item.number (step (store_of held.kept) item).0.boxes held.kept.stamps)
+    → IfOk r (λ ready. HasSpare ready.stamps (length held.kept.stamps))
     → IfOk r (λ ready. IsReady ready.effect held.room.store)
     → OnOk r (0 < held.room.items) → OnOk r (0 < held.room.notes)
     → IfOk r (λ ready. CanEnter ready held)
-can_enter (Ok ready) held item formed number left is stored does stamps effect items notes = record {
+can_enter (Ok ready) held item formed number left is stored does stamps spare effect items notes = record {
   formed = subst (λ (i : Item). IsWellFormed held.kept.house i) (sym is) formed;
   stored = stored ∙ sym is;
   number = ap (λ (i : Item). i.number) is ∙ number;
   left = left;
   does = does ∙ ap (λ (i : Item). (step (store_of held.kept) i).0) (sym is);
   stamps = stamps ∙ ap (λ (i : Item). stamps_after i.number (step (store_of held.kept) i).0.boxes held.kept.stamps) (sym is);
+  spare = spare;
   effect = effect;
   items = items;
   notes = notes;
 }
-can_enter (Err why) held item formed number left is stored does stamps effect items notes = tt
+can_enter (Err why) held item formed number left is stored does stamps spare effect items notes = tt

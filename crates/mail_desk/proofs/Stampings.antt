@@ -1,11 +1,10 @@
--- The stamps after an item, by its deed.
-use Rattle.std.proofs.Common.{◌≡◌, ℕ, Bool, true, false, not, ◌&&◌, ◌||◌, cond, List, [], ◌∷◌, map, filter, unwrap_or, Option, None, Some, is_some, refl, ap, ap₂, sym, subst, ◌∙◌, is_lt, is_eq, bytes_eq, Less, Equal, Greater, true≢false, drop, take_while, length, insert, set, zero, suc, ◌≤◌, ◌<◌, arith}
-use Rattle.std.specs.List.{list_all, list_any, prefix_len}
-use Rattle.std.proofs.Math.Numerals.{one-add}
-use Rattle.std.proofs.lemmas.List.{length-take}
+-- What an item changes of the stamps, by its deed.
+use Rattle.std.proofs.Common.{◌≡◌, ℕ, Bool, true, false, not, ◌&&◌, ◌||◌, cond, List, [], ◌∷◌, ◌++◌, map, filter, unwrap_or, Option, None, Some, is_some, option_map, Result, Ok, Err, IfOk, OnOk, refl, ap, ap₂, sym, subst, ◌∙◌, is_lt, bytes_eq, Less, Equal, Greater, true≢false}
+use Rattle.std.specs.List.{AllByRecursion, list_all, list_any}
 use Rattle.std.specs.Ordering.{eq_by_cmp}
-use Rattle.std.specs.Cmp.{second_so}
+use Rattle.std.specs.Cmp.{first_so, second_so}
 use Rattle.std.specs.FinMap.Entries as rows
+use Rattle.std.proofs.lemmas.List.{append_assoc}
 use Rattle.undo_base.specs.declared.keys.User.{User}
 use Rattle.verb_core.specs.declared.item.Aim.{Aim}
 use Rattle.verb_core.specs.declared.item.Act.TheVariants.{SetAlias, DropAlias, SetFilter, DropFilter, Remove, Give}
@@ -17,19 +16,27 @@ use Rattle.verb_core.specs.declared.mailbox.BoxId.{BoxId}
 use Rattle.verb_core.specs.declared.mailbox.Entry.{Entry}
 use Rattle.verb_core.specs.declared.mailbox.Mailbox.{Mailbox}
 use Rattle.verb_core.specs.Mailboxes.{no_mail, put_all, emptied}
-use Rattle.verb_core.specs.Names.{inbox, lost_found, is_empty, is_fixed, moved_name, superiors, with_superiors}
-use Rattle.verb_core.specs.Boxes.{box_cmp, box_of, row_at, has_row, add_row, add_rows, drop_row, change_row, has_inferior, has_superiors, is_at_or_below, is_rising, mail_at}
+use Rattle.verb_core.specs.Names.{inbox, lost_found, is_empty, is_fixed, is_inferior, moved_name, superiors, with_superiors}
+use Rattle.verb_core.specs.Boxes.{box_cmp, box_of, row_at, has_row, add_row, drop_row, change_row, has_inferior, has_superiors, is_at_or_below, is_rising, mail_at, same_user}
 use Rattle.verb_core.specs.Aims.{box_aimed}
 use Rattle.verb_core.specs.Items.{actor}
 use Rattle.verb_core.specs.Step.{Boxes, put_at, rearranged, created, all_created, left, moved, inbox_renamed, is_in_vain, way_of, after_rename, saved}
 use Rattle.verb_core.specs.Stamps.{stamps_after}
 use Rattle.verb_core.specs.Touched.{is_one}
-use Rattle.verb_core.proofs.BoxLaws.{tied, same_rows, row_at-add_row, row_at-where}
-use Rattle.verb_core.proofs.RowLists.{first_there, row_at-add_rows, has_row-all_created}
+use Rattle.verb_core.proofs.BoxLaws.{tied, bytes_eq-refl, same_rows, same_user-refl, row_at-add_row, row_at-where}
+use Rattle.verb_core.proofs.RowLists.{has_row-all_created}
 use Rattle.verb_core.proofs.MoveLaws.{moved_free}
-use Rattle.verb_core.proofs.Moves.{not_in_vain}
+use Rattle.verb_core.proofs.Moves.{not_below, not_in_vain}
 use Rattle.verb_core.proofs.Validity.{rising-rearranged}
-use Rattle.mail_desk.specs.Stamping.{StampRows, begins_with, stands_before, stamped, stamped_all, stamps_left, stamps_moved, renamed_stamps, stamps_by}
+use Rattle.mail_rows.specs.Inferiors.{is_under, rows_under}
+use Rattle.box_store.specs.declared.effect.Move.{Move}
+use Rattle.box_store.specs.Effects.{all_moved, row_moved}
+use Rattle.box_store.specs.Plans.{move_of, moves_of}
+use Rattle.box_store.proofs.Renames.{made_among, moves_all}
+use Rattle.mail_desk.specs.declared.restamp.StampChange.{StampChange}
+use Rattle.mail_desk.specs.declared.restamp.StampChange.TheVariants.{Made, Put, Gone, Moved}
+use Rattle.mail_desk.specs.declared.restamp.StampChanges.{StampChanges}
+use Rattle.mail_desk.specs.Stamping.{StampRows, all_changed, changed, changes_by, changes_left, changes_named, changes_renamed, restamped}
 
 abbrev pub ids_of : {A : Type 0} → List (BoxId × A) → List BoxId
 ids_of rs = map (λ r. r.0) rs
@@ -50,10 +57,6 @@ abbrev among : BoxId → List BoxId → List BoxId
 among id [] = id ∷ []
 among id (p ∷ ps) = rows.by_order (box_cmp id p) (id ∷ p ∷ ps) (p ∷ ps) (p ∷ among id ps)
 
-abbrev all_among : List BoxId → List BoxId → List BoxId
-all_among [] ps = ps
-all_among (id ∷ ids) ps = among id (all_among ids ps)
-
 module _ {A : Type 0} where
   ids-add_row : (id : BoxId) (x : A) (rs : List (BoxId × A)) → ids_of (add_row id x rs) ≡ among id (ids_of rs)
   ids-add_row id x [] = refl
@@ -64,10 +67,6 @@ module _ {A : Type 0} where
         | Greater ↦ ap (λ (t : List BoxId). r.0 ∷ t) (ids-add_row id x rs)
       ]
 
-  ids-add_rows : (cs rs : List (BoxId × A)) → ids_of (add_rows cs rs) ≡ all_among (ids_of cs) (ids_of rs)
-  ids-add_rows [] rs = refl
-  ids-add_rows (c ∷ cs) rs = ids-add_row c.0 c.1 (add_rows cs rs) ∙ ap (among c.0) (ids-add_rows cs rs)
-
   ids-where : (test : BoxId → Bool) (rs : List (BoxId × A)) → ids_of (filter (λ (r : BoxId × A). test r.0) rs) ≡ filter test (ids_of rs)
   ids-where test [] = refl
   ids-where test (r ∷ rs) =
@@ -75,10 +74,6 @@ module _ {A : Type 0} where
         | true ↦ ap (λ (t : List BoxId). r.0 ∷ t) (ids-where test rs)
         | false ↦ ids-where test rs
       ]
-
-  ids-placed : (f : BoxId → BoxId) (g : BoxId × A → A) (rs : List (BoxId × A)) → ids_of (map (λ (r : BoxId × A). (f r.0, g r)) rs) ≡ map f (ids_of rs)
-  ids-placed f g [] = refl
-  ids-placed f g (r ∷ rs) = ap (λ (t : List BoxId). f r.0 ∷ t) (ids-placed f g rs)
 
 abbrev below : BoxId → List BoxId → Bool
 below x [] = true
@@ -106,10 +101,15 @@ rise_alike rs ss same rise = rising_ids rs ∙ ap names_rise same ∙ sym (risin
 
 -- ---- the stamps' names are those of the mailboxes
 
+-- changes, and more behind them
+changed_more : (number : ℕ) (u : User) (cs ds : List StampChange) (stamps : StampRows) → all_changed number u (cs ++ ds) stamps ≡ all_changed number u ds (all_changed number u cs stamps)
+changed_more number u [] ds stamps = refl
+changed_more number u (c ∷ cs) ds stamps = changed_more number u cs ds (changed number u c stamps)
+
 module _ (number : ℕ) (u : User) where
-  same_created : (names : List (List ℕ)) (boxes : Boxes) (stamps : StampRows) → ids_of stamps ≡ ids_of boxes → ids_of (stamped_all number u names stamps) ≡ ids_of (all_created u names boxes)
-  same_created [] boxes stamps same = same
-  same_created (n ∷ names) boxes stamps same = same_created names (created (box_of u n) boxes) (stamped number (box_of u n) stamps) (one (has_row (box_of u n) stamps) (has_row (box_of u n) boxes) (has_ids (box_of u n) stamps boxes same))
+  same_made : (names : List (List ℕ)) (boxes : Boxes) (stamps : StampRows) → ids_of stamps ≡ ids_of boxes → ids_of (all_changed number u (map Made names) stamps) ≡ ids_of (all_created u names boxes)
+  same_made [] boxes stamps same = same
+  same_made (n ∷ names) boxes stamps same = same_made names (created (box_of u n) boxes) (changed number u (Made n) stamps) (one (has_row (box_of u n) stamps) (has_row (box_of u n) boxes) (has_ids (box_of u n) stamps boxes same))
     where
       one : (a b : Bool) → a ≡ b → ids_of (cond a stamps (add_row (box_of u n) number stamps)) ≡ ids_of (cond b boxes (add_row (box_of u n) no_mail boxes))
       one true true e = same
@@ -117,21 +117,28 @@ module _ (number : ℕ) (u : User) where
       one true false e = absurd (true≢false e)
       one false true e = absurd (true≢false (sym e))
 
-  same_moved : (source target : List ℕ) (boxes : Boxes) (stamps : StampRows) → ids_of stamps ≡ ids_of boxes → ids_of (stamps_moved number u source target stamps) ≡ ids_of (moved u source target boxes)
-  same_moved source target boxes stamps same =
-      let f = λ (q : BoxId). box_of u (moved_name source target q.name) in
-      let at = λ (q : BoxId). is_at_or_below u source q in
-      let off = λ (q : BoxId). not (is_at_or_below u source q) in
-      ids-add_rows (map (λ (r : BoxId × ℕ). (f r.0, number)) (filter (λ (r : BoxId × ℕ). at r.0) stamps)) (filter (λ (r : BoxId × ℕ). off r.0) stamps)
-      ∙ ap₂ all_among (ids-placed f (λ r. number) (filter (λ (r : BoxId × ℕ). at r.0) stamps) ∙ ap (map f) (ids-where at stamps ∙ ap (filter at) same ∙ sym (ids-where at boxes)) ∙ sym (ids-placed f (λ r. r.1) (filter (λ (r : BoxId × Mailbox). at r.0) boxes)))
-      (ids-where off stamps ∙ ap (filter off) same ∙ sym (ids-where off boxes))
-      ∙ sym (ids-add_rows (map (λ (r : BoxId × Mailbox). (f r.0, r.1)) (filter (λ (r : BoxId × Mailbox). at r.0) boxes)) (filter (λ (r : BoxId × Mailbox). off r.0) boxes))
+  same_dropped : (id : BoxId) (boxes : Boxes) (stamps : StampRows) → ids_of stamps ≡ ids_of boxes → ids_of (drop_row id stamps) ≡ ids_of (drop_row id boxes)
+  same_dropped id boxes stamps same =
+      ids-where (λ q. not (eq_by_cmp box_cmp id q)) stamps ∙ ap (filter (λ q. not (eq_by_cmp box_cmp id q))) same ∙ sym (ids-where (λ q. not (eq_by_cmp box_cmp id q)) boxes)
 
-  same_left : (source : List ℕ) (boxes : Boxes) (stamps : StampRows) → ids_of stamps ≡ ids_of boxes → ids_of (stamps_left u source boxes stamps) ≡ ids_of (left u source boxes)
+  same_moves : (ms : List Move) (boxes : Boxes) (stamps : StampRows) → ids_of stamps ≡ ids_of boxes → ids_of (all_changed number u (map Moved ms) stamps) ≡ ids_of (all_moved u ms boxes)
+  same_moves [] boxes stamps same = same
+  same_moves (m ∷ ms) boxes stamps same = same_moves ms (row_moved u m boxes) (changed number u (Moved m) stamps) (one (has_row (box_of u m.from) stamps) (row_at (box_of u m.from) boxes) (has_ids (box_of u m.from) stamps boxes same))
+    where
+      one : (a : Bool) (o : Option Mailbox) → a ≡ is_some o → ids_of (cond a (add_row (box_of u m.to) number (drop_row (box_of u m.from) stamps)) stamps)
+          ≡ ids_of (unwrap_or (option_map (λ x. add_row (box_of u m.to) x (drop_row (box_of u m.from) boxes)) o) boxes)
+      one true (Some x) e =
+          ids-add_row (box_of u m.to) number (drop_row (box_of u m.from) stamps) ∙ ap (among (box_of u m.to)) (same_dropped (box_of u m.from) boxes stamps same)
+          ∙ sym (ids-add_row (box_of u m.to) x (drop_row (box_of u m.from) boxes))
+      one false None e = same
+      one true None e = absurd (true≢false e)
+      one false (Some x) e = absurd (true≢false (sym e))
+
+  same_left : (source : List ℕ) (boxes : Boxes) (stamps : StampRows) → ids_of stamps ≡ ids_of boxes → ids_of (all_changed number u (changes_left u source boxes) stamps) ≡ ids_of (left u source boxes)
   same_left source boxes stamps same =
-      elim (bytes_eq source inbox || has_inferior u source boxes) as (λ b. ids_of (cond b stamps (drop_row (box_of u source) stamps)) ≡ ids_of (cond b (change_row (box_of u source) emptied boxes) (drop_row (box_of u source) boxes))) [
+      elim (bytes_eq source inbox || has_inferior u source boxes) as (λ b. ids_of (all_changed number u (cond b [] (Gone source ∷ [])) stamps) ≡ ids_of (cond b (change_row (box_of u source) emptied boxes) (drop_row (box_of u source) boxes))) [
         | true ↦ same ∙ sym (ids-change_row (box_of u source) emptied boxes)
-        | false ↦ ids-where (λ q. not (eq_by_cmp box_cmp (box_of u source) q)) stamps ∙ ap (filter (λ q. not (eq_by_cmp box_cmp (box_of u source) q))) same ∙ sym (ids-where (λ q. not (eq_by_cmp box_cmp (box_of u source) q)) boxes)
+        | false ↦ same_dropped (box_of u source) boxes stamps same
       ]
 
   same_inbox : (target : List ℕ) (boxes : Boxes) (stamps : StampRows) → ids_of stamps ≡ ids_of boxes → ids_of (add_row (box_of u target) number stamps) ≡ ids_of (inbox_renamed u target boxes)
@@ -139,47 +146,69 @@ module _ (number : ℕ) (u : User) where
       ids-add_row (box_of u target) number stamps ∙ ap (among (box_of u target)) (same ∙ sym (ids-change_row (box_of u inbox) emptied boxes))
       ∙ sym (ids-add_row (box_of u target) (put_all (mail_at (box_of u inbox) boxes) no_mail) (left u inbox boxes))
 
-  same_renamed : (way : Way) (source target : List ℕ) (boxes : Boxes) (stamps : StampRows) → ids_of stamps ≡ ids_of boxes → ids_of (renamed_stamps way number u source target boxes stamps) ≡ ids_of (after_rename way u source target boxes)
-  same_renamed NoSource source target boxes stamps same = same
-  same_renamed Merged source target boxes stamps same = same_left source boxes stamps same ∙ sym (ids-change_row (box_of u target) (put_all (mail_at (box_of u source) boxes)) (left u source boxes))
-  same_renamed Plain source target boxes stamps same =
-      let made = same_created (superiors target) boxes stamps same in
-      elim (bytes_eq source inbox) as (λ b. ids_of (cond b (add_row (box_of u target) number (stamped_all number u (superiors target) stamps)) (stamps_moved number u source target (stamped_all number u (superiors target) stamps)))
-      ≡ ids_of (cond b (inbox_renamed u target (all_created u (superiors target) boxes)) (moved u source target (all_created u (superiors target) boxes)))) [
-        | true ↦ same_inbox target (all_created u (superiors target) boxes) (stamped_all number u (superiors target) stamps) made
-        | false ↦ same_moved source target (all_created u (superiors target) boxes) (stamped_all number u (superiors target) stamps) made
-      ]
+-- a RENAME whose way is plain goes from a mailbox that is there to a name that is free
+plain_facts : (vain from to : Bool) → cond {A = Way} (vain || not from) NoSource (cond to Merged Plain) ≡ Plain → (vain ≡ false) × (from ≡ true) × (to ≡ false)
+plain_facts true from to h = cc
+plain_facts false false to h = cc
+plain_facts false true true h = cc
+plain_facts false true false h = (refl, refl, refl)
 
-  same_by : (d : Deed) (boxes : Boxes) (stamps : StampRows) → ids_of stamps ≡ ids_of boxes → ids_of (stamps_by number u d boxes stamps) ≡ ids_of (rearranged u d boxes)
-  same_by (Create mailbox) boxes stamps same =
-      elim (has_row (box_of u mailbox) boxes) as (λ b. ids_of (cond b stamps (stamped_all number u (with_superiors mailbox) stamps)) ≡ ids_of (cond b boxes (all_created u (with_superiors mailbox) boxes))) [
+module _ (number : ℕ) (u : User) (boxes : Boxes) (stamps : StampRows) (rising : is_rising boxes ≡ true) (whole : list_all (has_superiors boxes) boxes ≡ true) (same : ids_of stamps ≡ ids_of boxes) where
+  -- what moves, moves as it does among the mailboxes
+  moves_are : (source target : List ℕ) → bytes_eq source inbox ≡ false → way_of u source target boxes ≡ Plain
+      → all_moved u (moves_of u source target boxes) (all_created u (superiors target) boxes) ≡ moved u source target (all_created u (superiors target) boxes)
+  moves_are source target other plain =
+      let facts = plain_facts (is_in_vain u source target boxes) (has_row (box_of u source) boxes) (has_row (box_of u target) boxes) plain in
+      let names = not_in_vain u source target boxes facts.0 in
+      ap (all_moved u (moves_of u source target boxes)) (sym (made_among u boxes (superiors target) boxes (λ n h there. there)))
+      ∙ moves_all u source target boxes boxes rising rising (λ q t. refl) whole names.0 names.3 (not_below source target other names.4) facts.1 facts.2
+
+  same_plain : (source target : List ℕ) → way_of u source target boxes ≡ Plain → ids_of (all_changed number u (changes_renamed Plain u source target boxes) stamps) ≡ ids_of (after_rename Plain u source target boxes)
+  same_plain source target plain =
+      let made = all_created u (superiors target) boxes in
+      let new = all_changed number u (map Made (superiors target)) stamps in
+      let alike = same_made number u (superiors target) boxes stamps same in
+      ap ids_of (changed_more number u (map Made (superiors target)) (changes_named u source target boxes) stamps)
+      ∙ elim (bytes_eq source inbox) as (λ b. bytes_eq source inbox ≡ b → ids_of (all_changed number u (cond b (Put target ∷ []) (map Moved (moves_of u source target boxes))) new) ≡ ids_of (cond b (inbox_renamed u target made) (moved u source target made))) [
+        | true ↦ λ e. same_inbox number u target made new alike
+        | false ↦ λ e. same_moves number u (moves_of u source target boxes) made new alike ∙ ap ids_of (moves_are source target e plain)
+      ] refl
+
+  same_renamed : (source target : List ℕ) (way : Way) → way_of u source target boxes ≡ way → ids_of (all_changed number u (changes_renamed way u source target boxes) stamps) ≡ ids_of (after_rename way u source target boxes)
+  same_renamed source target NoSource is = same
+  same_renamed source target Merged is = same_left number u source boxes stamps same ∙ sym (ids-change_row (box_of u target) (put_all (mail_at (box_of u source) boxes)) (left u source boxes))
+  same_renamed source target Plain is = same_plain source target is
+
+  same_by : (d : Deed) → ids_of (all_changed number u (changes_by u d boxes) stamps) ≡ ids_of (rearranged u d boxes)
+  same_by (Create mailbox) =
+      elim (has_row (box_of u mailbox) boxes) as (λ b. ids_of (all_changed number u (cond b [] (map Made (with_superiors mailbox))) stamps) ≡ ids_of (cond b boxes (all_created u (with_superiors mailbox) boxes))) [
         | true ↦ same
-        | false ↦ same_created (with_superiors mailbox) boxes stamps same
+        | false ↦ same_made number u (with_superiors mailbox) boxes stamps same
       ]
-  same_by (Rename source target) boxes stamps same = same_renamed (way_of u source target boxes) source target boxes stamps same
-  same_by (Delete mailbox keys) boxes stamps same =
-      elim (is_fixed mailbox) as (λ b. ids_of (cond b stamps (stamps_left u mailbox boxes stamps)) ≡ ids_of (cond b boxes (change_row (box_of u lost_found) (put_all (saved u mailbox keys boxes)) (left u mailbox boxes)))) [
+  same_by (Rename source target) = same_renamed source target (way_of u source target boxes) refl
+  same_by (Delete mailbox keys) =
+      elim (is_fixed mailbox) as (λ b. ids_of (all_changed number u (cond b [] (changes_left u mailbox boxes)) stamps) ≡ ids_of (cond b boxes (change_row (box_of u lost_found) (put_all (saved u mailbox keys boxes)) (left u mailbox boxes)))) [
         | true ↦ same
-        | false ↦ same_left mailbox boxes stamps same ∙ sym (ids-change_row (box_of u lost_found) (put_all (saved u mailbox keys boxes)) (left u mailbox boxes))
+        | false ↦ same_left number u mailbox boxes stamps same ∙ sym (ids-change_row (box_of u lost_found) (put_all (saved u mailbox keys boxes)) (left u mailbox boxes))
       ]
-  same_by (Fetch mailbox keys true shows_body) boxes stamps same = same ∙ sym (ids-change_row (box_of u mailbox) _ boxes)
-  same_by (Fetch mailbox keys false shows_body) boxes stamps same = same
-  same_by (Store mailbox keys how flags) boxes stamps same = same ∙ sym (ids-change_row (box_of u mailbox) _ boxes)
-  same_by (Expunge mailbox keys) boxes stamps same = same ∙ sym (ids-change_row (box_of u mailbox) _ boxes)
-  same_by (Close mailbox keys) boxes stamps same = same ∙ sym (ids-change_row (box_of u mailbox) _ boxes)
-  same_by (Acts (Remove v mailbox key)) boxes stamps same = same ∙ sym (ids-change_row (box_of u mailbox) _ boxes)
-  same_by (Acts (SetAlias local users)) boxes stamps same = same
-  same_by (Acts (DropAlias local)) boxes stamps same = same
-  same_by (Acts (SetFilter f)) boxes stamps same = same
-  same_by (Acts (DropFilter id)) boxes stamps same = same
-  same_by (Acts (Give v mailbox text)) boxes stamps same = same
-  same_by (Deliver from to text) boxes stamps same = same
-  same_by (Append mailbox flags moment text) boxes stamps same = same
-  same_by (Copy mailbox keys target) boxes stamps same = same
-  same_by (Names pattern) boxes stamps same = same
-  same_by (Status mailbox) boxes stamps same = same
-  same_by (Select mailbox) boxes stamps same = same
-  same_by (Notice v text) boxes stamps same = same
+  same_by (Fetch mailbox keys true shows_body) = same ∙ sym (ids-change_row (box_of u mailbox) _ boxes)
+  same_by (Fetch mailbox keys false shows_body) = same
+  same_by (Store mailbox keys how flags) = same ∙ sym (ids-change_row (box_of u mailbox) _ boxes)
+  same_by (Expunge mailbox keys) = same ∙ sym (ids-change_row (box_of u mailbox) _ boxes)
+  same_by (Close mailbox keys) = same ∙ sym (ids-change_row (box_of u mailbox) _ boxes)
+  same_by (Acts (Remove v mailbox key)) = same ∙ sym (ids-change_row (box_of u mailbox) _ boxes)
+  same_by (Acts (SetAlias local users)) = same
+  same_by (Acts (DropAlias local)) = same
+  same_by (Acts (SetFilter f)) = same
+  same_by (Acts (DropFilter id)) = same
+  same_by (Acts (Give v mailbox text)) = same
+  same_by (Deliver from to text) = same
+  same_by (Append mailbox flags moment text) = same
+  same_by (Copy mailbox keys target) = same
+  same_by (Names pattern) = same
+  same_by (Status mailbox) = same
+  same_by (Select mailbox) = same
+  same_by (Notice v text) = same
 
 -- ---- each stamp is an old one, or the number of a mailbox that had none
 
@@ -223,72 +252,37 @@ module _ (number : ℕ) (stamps : StampRows) (q : BoxId) where
 abbrev Keeps : StampRows → StampRows → Type 0
 Keeps stamps new = (q : BoxId) → has_row q new ≡ false → has_row q stamps ≡ false
 
-kept_by : (number : ℕ) (id : BoxId) (stamps new : StampRows) → Keeps stamps new → Keeps stamps (stamped number id new)
-kept_by number id stamps new keeps q none = keeps q (stays (has_row id new) none)
+kept_by : (number : ℕ) (u : User) (name : List ℕ) (stamps new : StampRows) → Keeps stamps new → Keeps stamps (changed number u (Made name) new)
+kept_by number u name stamps new keeps q none = keeps q (stays (has_row (box_of u name) new) none)
   where
     later : (b : Bool) → is_some (cond b (Some number) (row_at q new)) ≡ false → has_row q new ≡ false
     later true h = absurd (true≢false h)
     later false h = h
 
-    stays : (b : Bool) → has_row q (cond b new (add_row id number new)) ≡ false → has_row q new ≡ false
+    stays : (b : Bool) → has_row q (cond b new (add_row (box_of u name) number new)) ≡ false → has_row q new ≡ false
     stays true h = h
-    stays false h = later (eq_by_cmp box_cmp q id) (ap is_some (sym (row_at-add_row q id number new)) ∙ h)
+    stays false h = later (eq_by_cmp box_cmp q (box_of u name)) (ap is_some (sym (row_at-add_row q (box_of u name) number new)) ∙ h)
 
 module _ (number : ℕ) (u : User) (stamps : StampRows) where
-  due_created : (names : List (List ℕ)) (new : StampRows) → Keeps stamps new → ((q : BoxId) → IsDue number stamps new q) → (q : BoxId) → IsDue number stamps (stamped_all number u names new) q
-  due_created [] new keeps is = is
-  due_created (n ∷ names) new keeps is =
-      due_created names (stamped number (box_of u n) new) (kept_by number (box_of u n) stamps new keeps) (λ q.
+  due_made : (names : List (List ℕ)) (new : StampRows) → Keeps stamps new → ((q : BoxId) → IsDue number stamps new q) → (q : BoxId) → IsDue number stamps (all_changed number u (map Made names) new) q
+  due_made [] new keeps is = is
+  due_made (n ∷ names) new keeps is =
+      due_made names (changed number u (Made n) new) (kept_by number u n stamps new keeps) (λ q.
       elim (has_row (box_of u n) new) as (λ b. has_row (box_of u n) new ≡ b → IsDue number stamps (cond b new (add_row (box_of u n) number new)) q) [
         | true ↦ λ e. is q
         | false ↦ λ e. due_added number stamps q (box_of u n) new (keeps (box_of u n) e) (is q)
       ] refl)
 
-  -- rows that all have the number
-  all_number : (f : BoxId → BoxId) (q : BoxId) (rs : StampRows) → row_at q (map (λ (r : BoxId × ℕ). (f r.0, number)) rs) ≡ cond (has_row q (map (λ (r : BoxId × ℕ). (f r.0, number)) rs)) (Some number) None
-  all_number f q [] = refl
-  all_number f q (r ∷ rs) =
-      elim (eq_by_cmp box_cmp q (f r.0)) as (λ b. cond b (Some number) (row_at q (map (λ (r : BoxId × ℕ). (f r.0, number)) rs)) ≡ cond (is_some (cond b (Some number) (row_at q (map (λ (r : BoxId × ℕ). (f r.0, number)) rs)))) (Some number) None) [
-        | true ↦ refl
-        | false ↦ all_number f q rs
-      ]
+  -- no stamp is under a new name
+  abbrev AreFree : List Move → Type 0
+  AreFree ms = AllByRecursion (λ (m : Move). has_row (box_of u m.to) stamps ≡ false) ms
 
-  -- a row stands under the new name of one that moved
-  had_place : (source target : List ℕ) (q : BoxId) (rs : StampRows) → has_row q (map (λ (r : BoxId × ℕ). (box_of u (moved_name source target r.0.name), number)) (filter (λ (r : BoxId × ℕ). is_at_or_below u source r.0) rs)) ≡ true
-      → (p : BoxId) × (is_at_or_below u source p ≡ true) × (q ≡ box_of u (moved_name source target p.name))
-  had_place source target q [] h = absurd (true≢false (sym h))
-  had_place source target q (r ∷ rs) h =
-      let placed : StampRows → StampRows = λ xs. map (λ (r : BoxId × ℕ). (box_of u (moved_name source target r.0.name), number)) xs in
-      let rest = filter (λ (r : BoxId × ℕ). is_at_or_below u source r.0) rs in
-      elim (is_at_or_below u source r.0) as (λ b. is_at_or_below u source r.0 ≡ b → has_row q (placed (cond b (r ∷ rest) rest)) ≡ true → (p : BoxId) × (is_at_or_below u source p ≡ true) × (q ≡ box_of u (moved_name source target p.name))) [
-        | true ↦ λ at. elim (eq_by_cmp box_cmp q (box_of u (moved_name source target r.0.name))) as (λ b. eq_by_cmp box_cmp q (box_of u (moved_name source target r.0.name)) ≡ b → is_some (cond b (Some number) (row_at q (placed rest))) ≡ true
-            → (p : BoxId) × (is_at_or_below u source p ≡ true) × (q ≡ box_of u (moved_name source target p.name))) [
-              | true ↦ λ e g. (r.0, at, tied q (box_of u (moved_name source target r.0.name)) e)
-              | false ↦ λ e g. had_place source target q rs g
-            ] refl
-        | false ↦ λ off g. had_place source target q rs g
-      ] refl h
-
-  -- mailboxes that move: no stamp was under a new name
-  due_moved : (source target : List ℕ) (new : StampRows) → ((p : BoxId) → is_at_or_below u source p ≡ true → has_row (box_of u (moved_name source target p.name)) stamps ≡ false)
-      → (q : BoxId) → IsDue number stamps new q → IsDue number stamps (stamps_moved number u source target new) q
-  due_moved source target new free q is =
-      let f = λ (p : BoxId). box_of u (moved_name source target p.name) in
-      let moving : StampRows = map (λ (r : BoxId × ℕ). (f r.0, number)) (filter (λ (r : BoxId × ℕ). is_at_or_below u source r.0) new) in
-      let staying : StampRows = filter (λ (r : BoxId × ℕ). not (is_at_or_below u source r.0)) new in
-      let stay : IsDue number stamps staying q = due_where number stamps q (λ p. not (is_at_or_below u source p)) new is in
-      let at : row_at q (add_rows moving staying) ≡ first_there (row_at q moving) (row_at q staying) = row_at-add_rows q moving staying in
-      at
-      ∙ ap (λ o. first_there o (row_at q staying)) (all_number f q (filter (λ (r : BoxId × ℕ). is_at_or_below u source r.0) new))
-      ∙ elim (has_row q moving) as (λ b. has_row q moving ≡ b → first_there (cond b (Some number) None) (row_at q staying) ≡ due number stamps q (is_some (first_there (cond b (Some number) None) (row_at q staying)))) [
-        | true ↦ λ e.
-            let p = had_place source target q new e in
-            let none : has_row q stamps ≡ false = subst (λ (x : BoxId). has_row x stamps ≡ false) (sym p.2) (free p.0 p.1) in
-            ap (λ b. cond b (row_at q stamps) (Some number)) (sym none)
-        | false ↦ λ e. stay
-      ] refl
-      ∙ ap (λ o. due number stamps q (is_some (first_there o (row_at q staying)))) (sym (all_number f q (filter (λ (r : BoxId × ℕ). is_at_or_below u source r.0) new)))
-      ∙ ap (λ o. due number stamps q (is_some o)) (sym at)
+  due_moved : (ms : List Move) → AreFree ms → (new : StampRows) (q : BoxId) → IsDue number stamps new q → IsDue number stamps (all_changed number u (map Moved ms) new) q
+  due_moved [] free new q is = is
+  due_moved (m ∷ ms) free new q is =
+      due_moved ms free.1 (changed number u (Moved m) new) q
+      (due_if number stamps q (has_row (box_of u m.from) new) (add_row (box_of u m.to) number (drop_row (box_of u m.from) new)) new
+      (due_added number stamps q (box_of u m.to) (drop_row (box_of u m.from) new) free.0 (due_where number stamps q (λ p. not (eq_by_cmp box_cmp (box_of u m.from) p)) new is)) is)
 
 -- ---- a RENAME to a free name
 
@@ -299,7 +293,11 @@ no_part false b h = refl
 none_before : {A : Type 0} (o : Option A) → o ≡ None → is_some o ≡ false
 none_before o e = ap is_some e
 
-module _ (number : ℕ) (u : User) (boxes : Boxes) (stamps : StampRows) (same : ids_of stamps ≡ ids_of boxes) (whole : list_all (has_superiors boxes) boxes ≡ true) (q : BoxId) where
+or_true : (b : Bool) → (b || true) ≡ true
+or_true true = refl
+or_true false = refl
+
+module _ (number : ℕ) (u : User) (boxes : Boxes) (stamps : StampRows) (same : ids_of stamps ≡ ids_of boxes) (whole : list_all (has_superiors boxes) boxes ≡ true) where
   -- no mailbox stands under a new name
   no_stamp : (source target : List ℕ) → is_empty target ≡ false → has_row (box_of u target) boxes ≡ false → (p : BoxId) → is_at_or_below u source p ≡ true → has_row (box_of u (moved_name source target p.name)) stamps ≡ false
   no_stamp source target named free p at =
@@ -308,41 +306,72 @@ module _ (number : ℕ) (u : User) (boxes : Boxes) (stamps : StampRows) (same : 
       ∙ no_part (has_row id boxes) (is_one (map (box_of u) (superiors target)) id)
       (sym (has_row-all_created u id (superiors target) boxes) ∙ none_before (row_at id (all_created u (superiors target) boxes)) (moved_free u source target boxes whole named free p.name (second_so _ _ at)))
 
-  due_renamed : (source target : List ℕ) → is_empty target ≡ false → has_row (box_of u target) boxes ≡ false → IsDue number stamps (renamed_stamps Plain number u source target boxes stamps) q
-  due_renamed source target named free =
-      let made = due_created number u stamps (superiors target) stamps (λ p none. none) (λ p. own number stamps p) in
-      elim (bytes_eq source inbox) as (λ b. IsDue number stamps (cond b (add_row (box_of u target) number (stamped_all number u (superiors target) stamps)) (stamps_moved number u source target (stamped_all number u (superiors target) stamps))) q) [
-        | true ↦ due_added number stamps q (box_of u target) (stamped_all number u (superiors target) stamps) (has_ids (box_of u target) stamps boxes same ∙ free) (made q)
-        | false ↦ due_moved number u stamps source target (stamped_all number u (superiors target) stamps) (no_stamp source target named free) q (made q)
-      ]
+  free_under : (source target : List ℕ) → is_empty target ≡ false → has_row (box_of u target) boxes ≡ false → (rs : Boxes)
+      → AreFree number u stamps (map (move_of source target) (map (λ (r : BoxId × Mailbox). r.0.name) (rows_under u source rs)))
+  free_under source target named free [] = tt
+  free_under source target named free (r ∷ rs) =
+      elim (is_under u source r.0) as (λ b. is_under u source r.0 ≡ b → AreFree number u stamps (map (move_of source target) (map (λ (r : BoxId × Mailbox). r.0.name) (cond b (r ∷ rows_under u source rs) (rows_under u source rs))))) [
+        | true ↦ λ e.
+            let at : is_at_or_below u source r.0 ≡ true = ap₂ (λ (a b : Bool). a && (bytes_eq source r.0.name || b)) (first_so (same_user u r.0.user) (is_inferior source r.0.name) e) (second_so (same_user u r.0.user) (is_inferior source r.0.name) e) ∙ or_true (bytes_eq source r.0.name) in
+            (no_stamp source target named free r.0 at, free_under source target named free rs)
+        | false ↦ λ e. free_under source target named free rs
+      ] refl
 
-  due_left : (source : List ℕ) → IsDue number stamps (stamps_left u source boxes stamps) q
-  due_left source = due_if number stamps q (bytes_eq source inbox || has_inferior u source boxes) stamps (drop_row (box_of u source) stamps) (own number stamps q) (due_where number stamps q (λ p. not (eq_by_cmp box_cmp (box_of u source) p)) stamps (own number stamps q))
+  all_free : (source target : List ℕ) → is_empty target ≡ false → has_row (box_of u target) boxes ≡ false → AreFree number u stamps (moves_of u source target boxes)
+  all_free source target named free =
+      let at : is_at_or_below u source (box_of u source) ≡ true = ap₂ (λ (a b : Bool). a && (b || is_inferior source source)) (same_user-refl u) (bytes_eq-refl source) in
+      (no_stamp source target named free (box_of u source) at, free_under source target named free boxes)
 
-  due_rename : (source target : List ℕ) (vain missing there : Bool) → is_in_vain u source target boxes ≡ vain → has_row (box_of u target) boxes ≡ there
-      → IsDue number stamps (renamed_stamps (cond (vain || missing) NoSource (cond there Merged Plain)) number u source target boxes stamps) q
-  due_rename source target true missing there v t = own number stamps q
-  due_rename source target false true there v t = own number stamps q
-  due_rename source target false false true v t = due_left source
-  due_rename source target false false false v t = due_renamed source target (not_in_vain u source target boxes v).0 t
+  module _ (q : BoxId) where
+    due_renamed : (source target : List ℕ) → is_empty target ≡ false → has_row (box_of u target) boxes ≡ false → IsDue number stamps (all_changed number u (changes_renamed Plain u source target boxes) stamps) q
+    due_renamed source target named free =
+        let new = all_changed number u (map Made (superiors target)) stamps in
+        let made = due_made number u stamps (superiors target) stamps (λ p none. none) (λ p. own number stamps p) in
+        subst (λ (rs : StampRows). IsDue number stamps rs q) (sym (changed_more number u (map Made (superiors target)) (changes_named u source target boxes) stamps))
+        (elim (bytes_eq source inbox) as (λ b. IsDue number stamps (all_changed number u (cond b (Put target ∷ []) (map Moved (moves_of u source target boxes))) new) q) [
+          | true ↦ due_added number stamps q (box_of u target) new (has_ids (box_of u target) stamps boxes same ∙ free) (made q)
+          | false ↦ due_moved number u stamps (moves_of u source target boxes) (all_free source target named free) new q (made q)
+        ])
 
-  -- by cases of deeds
-  due_by : (d : Deed) → IsDue number stamps (stamps_by number u d boxes stamps) q
-  due_by (Create mailbox) = due_if number stamps q (has_row (box_of u mailbox) boxes) stamps (stamped_all number u (with_superiors mailbox) stamps) (own number stamps q) (due_created number u stamps (with_superiors mailbox) stamps (λ p none. none) (λ p. own number stamps p) q)
-  due_by (Rename source target) = due_rename source target (is_in_vain u source target boxes) (not (has_row (box_of u source) boxes)) (has_row (box_of u target) boxes) refl refl
-  due_by (Delete mailbox keys) = due_if number stamps q (is_fixed mailbox) stamps (stamps_left u mailbox boxes stamps) (own number stamps q) (due_left mailbox)
-  due_by (Fetch mailbox keys sets_seen shows_body) = own number stamps q
-  due_by (Store mailbox keys how flags) = own number stamps q
-  due_by (Expunge mailbox keys) = own number stamps q
-  due_by (Close mailbox keys) = own number stamps q
-  due_by (Acts act) = own number stamps q
-  due_by (Deliver from to text) = own number stamps q
-  due_by (Append mailbox flags moment text) = own number stamps q
-  due_by (Copy mailbox keys target) = own number stamps q
-  due_by (Names pattern) = own number stamps q
-  due_by (Status mailbox) = own number stamps q
-  due_by (Select mailbox) = own number stamps q
-  due_by (Notice v text) = own number stamps q
+    due_left : (source : List ℕ) → IsDue number stamps (all_changed number u (changes_left u source boxes) stamps) q
+    due_left source =
+        elim (bytes_eq source inbox || has_inferior u source boxes) as (λ b. IsDue number stamps (all_changed number u (cond b [] (Gone source ∷ [])) stamps) q) [
+          | true ↦ own number stamps q
+          | false ↦ due_where number stamps q (λ p. not (eq_by_cmp box_cmp (box_of u source) p)) stamps (own number stamps q)
+        ]
+
+    due_rename : (source target : List ℕ) (way : Way) → way_of u source target boxes ≡ way → IsDue number stamps (all_changed number u (changes_renamed way u source target boxes) stamps) q
+    due_rename source target NoSource is = own number stamps q
+    due_rename source target Merged is = due_left source
+    due_rename source target Plain is =
+        let facts = plain_facts (is_in_vain u source target boxes) (has_row (box_of u source) boxes) (has_row (box_of u target) boxes) is in
+        due_renamed source target (not_in_vain u source target boxes facts.0).0 facts.2
+
+    -- by cases of deeds
+    due_by : (d : Deed) → IsDue number stamps (all_changed number u (changes_by u d boxes) stamps) q
+    due_by (Create mailbox) =
+        elim (has_row (box_of u mailbox) boxes) as (λ b. IsDue number stamps (all_changed number u (cond b [] (map Made (with_superiors mailbox))) stamps) q) [
+          | true ↦ own number stamps q
+          | false ↦ due_made number u stamps (with_superiors mailbox) stamps (λ p none. none) (λ p. own number stamps p) q
+        ]
+    due_by (Rename source target) = due_rename source target (way_of u source target boxes) refl
+    due_by (Delete mailbox keys) =
+        elim (is_fixed mailbox) as (λ b. IsDue number stamps (all_changed number u (cond b [] (changes_left u mailbox boxes)) stamps) q) [
+          | true ↦ own number stamps q
+          | false ↦ due_left mailbox
+        ]
+    due_by (Fetch mailbox keys sets_seen shows_body) = own number stamps q
+    due_by (Store mailbox keys how flags) = own number stamps q
+    due_by (Expunge mailbox keys) = own number stamps q
+    due_by (Close mailbox keys) = own number stamps q
+    due_by (Acts act) = own number stamps q
+    due_by (Deliver from to text) = own number stamps q
+    due_by (Append mailbox flags moment text) = own number stamps q
+    due_by (Copy mailbox keys target) = own number stamps q
+    due_by (Names pattern) = own number stamps q
+    due_by (Status mailbox) = own number stamps q
+    due_by (Select mailbox) = own number stamps q
+    due_by (Notice v text) = own number stamps q
 
 -- ---- the laws of stamps
 
@@ -357,12 +386,12 @@ StampsStay = (number : ℕ) (before after : List (BoxId × Mailbox)) (stamps : L
 
 -- the stamps after an item whose mail is put at its aims
 pub stamps_by_deed : StampsAreNamed → StampsStay → (number : ℕ) (u : User) (d : Deed) (mail : ℕ → List Entry) (aims : List Aim) (boxes : Boxes) (stamps : StampRows)
-    → is_rising boxes ≡ true → list_all (has_superiors boxes) boxes ≡ true → ids_of stamps ≡ ids_of boxes → stamps_after number (put_at mail aims (rearranged u d boxes)) stamps ≡ stamps_by number u d boxes stamps
+    → is_rising boxes ≡ true → list_all (has_superiors boxes) boxes ≡ true → ids_of stamps ≡ ids_of boxes → stamps_after number (put_at mail aims (rearranged u d boxes)) stamps ≡ all_changed number u (changes_by u d boxes) stamps
 stamps_by_deed named each number u d mail aims boxes stamps rising whole same =
     let after = put_at mail aims (rearranged u d boxes) in
-    let new = stamps_by number u d boxes stamps in
+    let new = all_changed number u (changes_by u d boxes) stamps in
     let ids : ids_of after ≡ ids_of (rearranged u d boxes) = ids-put_at mail aims (rearranged u d boxes) in
-    let news : ids_of new ≡ ids_of (rearranged u d boxes) = same_by number u d boxes stamps same in
+    let news : ids_of new ≡ ids_of (rearranged u d boxes) = same_by number u boxes stamps rising whole same d in
     same_rows (stamps_after number after stamps) new
     (rise_alike (stamps_after number after stamps) (rearranged u d boxes) (named number after stamps ∙ ids) (rising-rearranged u d boxes rising))
     (rise_alike new (rearranged u d boxes) news (rising-rearranged u d boxes rising))
@@ -372,7 +401,8 @@ stamps_by_deed named each number u d mail aims boxes stamps rising whole same =
     ∙ sym (due_by number u boxes stamps same whole q d))
 
 -- where names of mailboxes change, it is the asker who acts
-pub same_actor : (number : ℕ) (by : Option User) (d : Deed) (boxes : Boxes) (stamps : StampRows) → stamps_by number (unwrap_or by (record { 0 = 0 })) d boxes stamps ≡ stamps_by number (actor by d) d boxes stamps
+pub same_actor : (number : ℕ) (by : Option User) (d : Deed) (boxes : Boxes) (stamps : StampRows)
+    → all_changed number (unwrap_or by (record { 0 = 0 })) (changes_by (unwrap_or by (record { 0 = 0 })) d boxes) stamps ≡ all_changed number (actor by d) (changes_by (actor by d) d boxes) stamps
 same_actor number by (Create mailbox) boxes stamps = refl
 same_actor number by (Rename source target) boxes stamps = refl
 same_actor number by (Delete mailbox keys) boxes stamps = refl
@@ -389,40 +419,24 @@ same_actor number by (Status mailbox) boxes stamps = refl
 same_actor number by (Select mailbox) boxes stamps = refl
 same_actor number by (Notice v text) boxes stamps = refl
 
--- ---- a row put where it stands in order
+-- changes that were made ahead
+pub changes_are : {W : Type 0} (r : Result (Option StampChanges) W) (number : ℕ) (u : User) (list : List StampChange) (stamps after : StampRows)
+    → IfOk r (λ changes. (s : StampRows) → restamped changes s ≡ all_changed number u list s) → all_changed number u list stamps ≡ after → IfOk r (λ changes. restamped changes stamps ≡ after)
+changes_are (Ok changes) number u list stamps after made is = made stamps ∙ is
+changes_are (Err why) number u list stamps after made is = tt
 
--- so many rows stand before it
-pub place_within : (id : BoxId) (rs : StampRows) → length (take_while (stands_before id) rs) ≤ length rs
-place_within id rs = omega (arith, length-take (prefix_len (stands_before id) rs) rs)
+-- ---- the changes of a RENAME
 
-pub place_taken : (id : BoxId) (rs : StampRows) (place : ℕ) → begins_with id (drop place rs) ≡ true → place < length rs
-place_taken id [] zero h = absurd (true≢false (sym h))
-place_taken id [] (suc place) h = absurd (true≢false (sym h))
-place_taken id (r ∷ rs) zero h = omega arith
-place_taken id (r ∷ rs) (suc place) h = let rest = place_taken id rs place h in omega arith
+fused : (source target : List ℕ) (rs : Boxes) → map (λ (r : BoxId × Mailbox). Moved (move_of source target r.0.name)) rs ≡ map Moved (map (move_of source target) (map (λ (r : BoxId × Mailbox). r.0.name) rs))
+fused source target [] = refl
+fused source target (r ∷ rs) = ap (λ (cs : List StampChange). Moved (move_of source target r.0.name) ∷ cs) (fused source target rs)
 
-one_more : (b : Bool) (r : BoxId × ℕ) (ss ts : StampRows) → cond b (r ∷ ss) (r ∷ ts) ≡ r ∷ cond b ss ts
-one_more true r ss ts = refl
-one_more false r ss ts = refl
-
--- it stands in the place of the row of its mailbox, or comes between
-row_put : (id : BoxId) (number : ℕ) (rs : StampRows) →
-    cond (begins_with id (drop (length (take_while (stands_before id) rs)) rs)) (set rs (length (take_while (stands_before id) rs)) (id, number)) (insert rs (length (take_while (stands_before id) rs)) (id, number)) ≡ add_row id number rs
-row_put id number [] = refl
-row_put id number (r ∷ rs) =
-    elim (box_cmp id r.0) as (λ o. box_cmp id r.0 ≡ o → cond (begins_with id (drop (length (take_while (stands_before id) (r ∷ rs))) (r ∷ rs))) (set (r ∷ rs) (length (take_while (stands_before id) (r ∷ rs))) (id, number)) (insert (r ∷ rs) (length (take_while (stands_before id) (r ∷ rs))) (id, number)) ≡ add_row id number (r ∷ rs)) [
-      | Less ↦ λ e. let no : eq_by_cmp box_cmp id r.0 ≡ false = ap is_eq e in rw (e, no) refl
-      | Equal ↦ λ e. let yes : eq_by_cmp box_cmp id r.0 ≡ true = ap is_eq e in rw (e, yes) (ap (λ (q : BoxId). (q, number) ∷ rs) (tied id r.0 (ap is_eq e)))
-      | Greater ↦ λ e. rw (e, one-add (prefix_len (stands_before id) rs))
-          (one_more (begins_with id (drop (length (take_while (stands_before id) rs)) rs)) r (set rs (length (take_while (stands_before id) rs)) (id, number)) (insert rs (length (take_while (stands_before id) rs)) (id, number)) ∙ ap (λ (t : StampRows). r ∷ t) (row_put id number rs))
-    ] refl
-
-pub row_set : (id : BoxId) (number : ℕ) (rs : StampRows) (place : ℕ) → place ≡ length (take_while (stands_before id) rs) → begins_with id (drop place rs) ≡ true → set rs place (id, number) ≡ add_row id number rs
-row_set id number rs place is there =
-    let f = λ (n : ℕ). cond (begins_with id (drop n rs)) (set rs n (id, number)) (insert rs n (id, number)) in
-    ap (λ b. cond b (set rs place (id, number)) (insert rs place (id, number))) (sym there) ∙ ap f is ∙ row_put id number rs
-
-pub row_inserted : (id : BoxId) (number : ℕ) (rs : StampRows) (place : ℕ) → place ≡ length (take_while (stands_before id) rs) → begins_with id (drop place rs) ≡ false → insert rs place (id, number) ≡ add_row id number rs
-row_inserted id number rs place is none =
-    let f = λ (n : ℕ). cond (begins_with id (drop n rs)) (set rs n (id, number)) (insert rs n (id, number)) in
-    ap (λ b. cond b (set rs place (id, number)) (insert rs place (id, number))) (sym none) ∙ ap f is ∙ row_put id number rs
+-- the source and its inferiors
+pub moved_pushed : {A W : Type 0} (r : Result A W) (new first old : List StampChange) (u : User) (source target : List ℕ) (rs boxes : Boxes) → first ≡ old ++ Moved (move_of source target source) ∷ [] → rs ≡ rows_under u source boxes
+    → OnOk r (new ≡ first ++ map (λ (r : BoxId × Mailbox). Moved (move_of source target r.0.name)) rs) → OnOk r (new ≡ old ++ map Moved (moves_of u source target boxes))
+moved_pushed (Ok x) new first old u source target rs boxes one are all =
+    all ∙ ap (λ (cs : List StampChange). cs ++ map (λ (r : BoxId × Mailbox). Moved (move_of source target r.0.name)) rs) one
+    ∙ append_assoc old (Moved (move_of source target source) ∷ []) (map (λ (r : BoxId × Mailbox). Moved (move_of source target r.0.name)) rs)
+    ∙ ap (λ (cs : List StampChange). old ++ Moved (move_of source target source) ∷ cs)
+    (fused source target rs ∙ ap (λ (bs : Boxes). map Moved (map (move_of source target) (map (λ (r : BoxId × Mailbox). r.0.name) bs))) are)
+moved_pushed (Err why) new first old u source target rs boxes one are all = tt

@@ -1,5 +1,5 @@
 -- An item that can be entered with no memory taken.
-use Rattle.std.specs.Prelude.{◌≡◌, ◌<◌, unwrap_or}
+use Rattle.std.specs.Prelude.{◌≡◌, ◌<◌, length}
 use Rattle.verb_core.specs.Items.{IsWellFormed}
 use Rattle.verb_core.specs.Step.{step}
 use Rattle.verb_core.specs.Stamps.{stamps_after}
@@ -7,8 +7,9 @@ use Rattle.box_store.specs.Effects.{IsReady, applied}
 use Rattle.mail_desk.specs.declared.ready.Ready.{Ready}
 use Rattle.store_kept.specs.Kept.{store_of}
 use Rattle.mail_desk.specs.Held.{Held}
+use Rattle.mail_desk.specs.Stamping.{HasSpare, restamped}
 
--- The item has the next number and is made ready to be stored, the effect is what it does, the stamps are those after it, where they change, and there
+-- The item has the next number and is made ready to be stored, the effect is what it does, the stamps with the changes are those after it, and there
 -- is room for all of it.
 pub record CanEnter (ready : Ready) (held : Held) : Type 0 where
   pub formed : IsWellFormed held.kept.house ready.item
@@ -16,7 +17,8 @@ pub record CanEnter (ready : Ready) (held : Held) : Type 0 where
   pub number : ready.item.number ≡ held.kept.next
   pub left : held.kept.next < 4194304
   pub does : applied ready.effect (store_of held.kept) ≡ (step (store_of held.kept) ready.item).0
-  pub stamps : unwrap_or ready.stamps held.kept.stamps ≡ stamps_after ready.item.number (step (store_of held.kept) ready.item).0.boxes held.kept.stamps
+  pub spare : HasSpare ready.stamps (length held.kept.stamps)
+  pub stamps : restamped ready.stamps held.kept.stamps ≡ stamps_after ready.item.number (step (store_of held.kept) ready.item).0.boxes held.kept.stamps
   pub effect : IsReady ready.effect held.room.store
   pub items : 0 < held.room.items
   pub notes : 0 < held.room.notes

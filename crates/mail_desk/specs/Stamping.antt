@@ -1,5 +1,5 @@
--- The stamps after a deed that brings mailboxes, takes one out or changes names.
-use Rattle.std.specs.Prelude.{ℕ, Bool, false, not, ◌||◌, List, [], ◌∷◌, map, filter, bytes_eq, if◌then◌else◌}
+-- What a deed that brings mailboxes, takes one out or changes names makes of the stamps.
+use Rattle.std.specs.Prelude.{◌≡◌, ℕ, ◌+◌, ◌≤◌, nat_lt, Bool, false, ◌||◌, List, [], ◌∷◌, ◌++◌, map, length, bytes_eq, Option, Some, None, vec_capacity, if◌then◌else◌}
 use Rattle.std.specs.Ordering.{eq_by_cmp, is_gt}
 use Rattle.undo_base.specs.declared.keys.User.{User}
 use Rattle.verb_core.specs.declared.item.Deed.{Deed}
@@ -7,9 +7,13 @@ use Rattle.verb_core.specs.declared.item.Deed.TheVariants.{Create, Rename, Delet
 use Rattle.verb_core.specs.declared.item.Way.{Way}
 use Rattle.verb_core.specs.declared.item.Way.TheVariants.{Plain, NoSource, Merged}
 use Rattle.verb_core.specs.declared.mailbox.BoxId.{BoxId}
-use Rattle.verb_core.specs.Names.{inbox, is_fixed, moved_name, superiors, with_superiors}
-use Rattle.verb_core.specs.Boxes.{box_cmp, box_of, has_inferior, has_row, is_at_or_below, add_row, add_rows, drop_row}
+use Rattle.verb_core.specs.Names.{inbox, is_fixed, superiors, with_superiors}
+use Rattle.verb_core.specs.Boxes.{box_cmp, box_of, has_inferior, has_row, add_row, drop_row}
 use Rattle.verb_core.specs.Step.{Boxes, way_of}
+use Rattle.box_store.specs.Plans.{moves_of}
+use Rattle.mail_desk.specs.declared.restamp.StampChange.{StampChange}
+use Rattle.mail_desk.specs.declared.restamp.StampChange.TheVariants.{Made, Put, Gone, Moved}
+use Rattle.mail_desk.specs.declared.restamp.StampChanges.{StampChanges}
 
 abbrev pub StampRows : Type 0
 StampRows = List (BoxId × ℕ)
@@ -23,44 +27,53 @@ abbrev pub begins_with : BoxId → StampRows → Bool
 begins_with id [] = false
 begins_with id (r ∷ rs) = eq_by_cmp box_cmp id r.0
 
--- the number is the stamp of a mailbox that has none
-abbrev pub stamped : ℕ → BoxId → StampRows → StampRows
-stamped number id stamps = if has_row id stamps then stamps else add_row id number stamps
+-- whether a row is a later user's
+abbrev pub is_later : User → BoxId × ℕ → Bool
+is_later u r = nat_lt u.0 r.0.user.0
 
--- and of each of a user's names
-abbrev pub stamped_all : ℕ → User → List (List ℕ) → StampRows → StampRows
-stamped_all number u [] stamps = stamps
-stamped_all number u (name ∷ names) stamps = stamped_all number u names (stamped number (box_of u name) stamps)
+-- ---- changes
+
+-- what becomes of one stamp of a user, by the item of a number
+abbrev pub changed : ℕ → User → StampChange → StampRows → StampRows
+changed number u (Made name) stamps = if has_row (box_of u name) stamps then stamps else add_row (box_of u name) number stamps
+changed number u (Put name) stamps = add_row (box_of u name) number stamps
+changed number u (Gone name) stamps = drop_row (box_of u name) stamps
+changed number u (Moved m) stamps = if has_row (box_of u m.from) stamps then add_row (box_of u m.to) number (drop_row (box_of u m.from) stamps) else stamps
+
+-- and of some, one after the other
+abbrev pub all_changed : ℕ → User → List StampChange → StampRows → StampRows
+all_changed number u [] stamps = stamps
+all_changed number u (c ∷ cs) stamps = all_changed number u cs (changed number u c stamps)
+
+-- the stamps where they are changed
+abbrev pub restamped : Option StampChanges → StampRows → StampRows
+restamped None stamps = stamps
+restamped (Some changes) stamps = all_changed changes.number changes.user changes.list.items stamps
+
+-- there is an empty list with room for so many stamps and those that come
+abbrev pub HasSpare : Option StampChanges → ℕ → Type 0
+HasSpare None count = Unit {0}
+HasSpare (Some changes) count = (changes.spare.items ≡ []) × (count + length changes.list.items ≤ vec_capacity changes.spare)
+
+-- ---- by deeds
 
 -- where a mailbox is left: INBOX stays, and one that has an inferior
-abbrev pub stamps_left : User → List ℕ → Boxes → StampRows → StampRows
-stamps_left u source boxes stamps = if bytes_eq source inbox || has_inferior u source boxes then stamps else drop_row (box_of u source) stamps
-
--- the rows of a mailbox and its inferiors, each with its new name and the number
-abbrev pub rows_moving : ℕ → User → List ℕ → List ℕ → StampRows → StampRows
-rows_moving number u source target stamps = map (λ r. (box_of u (moved_name source target r.0.name), number)) (filter (λ r. is_at_or_below u source r.0) stamps)
-
--- and the others
-abbrev pub rows_staying : User → List ℕ → StampRows → StampRows
-rows_staying u source stamps = filter (λ r. not (is_at_or_below u source r.0)) stamps
-
--- where a mailbox and its inferiors have new names, each gets the number
-abbrev pub stamps_moved : ℕ → User → List ℕ → List ℕ → StampRows → StampRows
-stamps_moved number u source target stamps = add_rows (rows_moving number u source target stamps) (rows_staying u source stamps)
+abbrev pub changes_left : User → List ℕ → Boxes → List StampChange
+changes_left u source boxes = if bytes_eq source inbox || has_inferior u source boxes then [] else Gone source ∷ []
 
 -- where a mailbox has a new name, below superiors that are there
-abbrev pub stamps_named : ℕ → User → List ℕ → List ℕ → StampRows → StampRows
-stamps_named number u source target stamps = if bytes_eq source inbox then add_row (box_of u target) number stamps else stamps_moved number u source target stamps
+abbrev pub changes_named : User → List ℕ → List ℕ → Boxes → List StampChange
+changes_named u source target boxes = if bytes_eq source inbox then Put target ∷ [] else map Moved (moves_of u source target boxes)
 
 -- where a RENAME goes a way
-abbrev pub renamed_stamps : Way → ℕ → User → List ℕ → List ℕ → Boxes → StampRows → StampRows
-renamed_stamps NoSource number u source target boxes stamps = stamps
-renamed_stamps Plain number u source target boxes stamps = stamps_named number u source target (stamped_all number u (superiors target) stamps)
-renamed_stamps Merged number u source target boxes stamps = stamps_left u source boxes stamps
+abbrev pub changes_renamed : Way → User → List ℕ → List ℕ → Boxes → List StampChange
+changes_renamed NoSource u source target boxes = []
+changes_renamed Plain u source target boxes = map Made (superiors target) ++ changes_named u source target boxes
+changes_renamed Merged u source target boxes = changes_left u source boxes
 
--- after the item of a number
-abbrev pub stamps_by : ℕ → User → Deed → Boxes → StampRows → StampRows
-stamps_by number u (Create mailbox) boxes stamps = if has_row (box_of u mailbox) boxes then stamps else stamped_all number u (with_superiors mailbox) stamps
-stamps_by number u (Rename source target) boxes stamps = renamed_stamps (way_of u source target boxes) number u source target boxes stamps
-stamps_by number u (Delete mailbox keys) boxes stamps = if is_fixed mailbox then stamps else stamps_left u mailbox boxes stamps
-stamps_by number u _ boxes stamps = stamps
+-- after an item
+abbrev pub changes_by : User → Deed → Boxes → List StampChange
+changes_by u (Create mailbox) boxes = if has_row (box_of u mailbox) boxes then [] else map Made (with_superiors mailbox)
+changes_by u (Rename source target) boxes = changes_renamed (way_of u source target boxes) u source target boxes
+changes_by u (Delete mailbox keys) boxes = if is_fixed mailbox then [] else changes_left u mailbox boxes
+changes_by u _ boxes = []

@@ -1,5 +1,5 @@
 //! Items that are asked for: found, made ready, and entered.
-ghost use Rattle.std.specs.Prelude.{◌≡◌, ℕ, ◌<◌, ◌↔◌, map, IsTrue, IsSome, IfOk, IfErr, OnOk, Ok, unwrap_or, []};
+ghost use Rattle.std.specs.Prelude.{◌≡◌, ℕ, ◌<◌, ◌↔◌, map, IsTrue, IsSome, IfOk, IfErr, OnOk, Ok, length, []};
 ghost use Rattle.std.specs.List.{list_all, cons_option};
 ghost use Rattle.verb_core.specs.declared.mailbox.BoxId.{BoxId as TheBoxId};
 ghost use Rattle.verb_core.specs.declared.mailbox.Mailbox.{Mailbox as TheMailbox};
@@ -13,12 +13,14 @@ ghost use Rattle.stored_items.specs.Stored.{step_text};
 ghost use Rattle.box_store.specs.Effects.{IsReady, applied};
 ghost use Rattle.box_store.specs.Refusing.{IsRefusal};
 ghost use Rattle.mail_desk.specs.Entering.{CanEnter};
+ghost use Rattle.mail_desk.specs.Stamping.{HasSpare, restamped};
 ghost use Rattle.mail_desk.specs.Timeline.{NotesText, body_of};
 
 use crate::Desk;
 use crate::noting::note_text;
 use crate::numbered::Numbered;
-use crate::stamps::changed_stamps;
+use crate::restamp::{StampChanges, stamp_changes};
+use crate::stamps::change_stamps;
 use box_store::{Effect, Steps, Store};
 use seal_log::Place;
 use shelf::Shelf;
@@ -32,13 +34,13 @@ use undo_base::{NoMemory, User};
 use verb_core::laws::{mail_is_kept, stamps_name_mailboxes, steps_keep_validity};
 use verb_core::{Ask, Item, Refused, Stamps};
 
-/// An item that a desk can enter with no memory taken: as it is stored, its effect, and the stamps after it where they change.
+/// An item that a desk can enter with no memory taken: as it is stored, its effect, and what it changes of the stamps.
 #[derive(Drop)]
 pub struct Ready {
     pub(crate) item: Item,
     pub(crate) stored: StoredItem,
     pub(crate) effect: Effect,
-    pub(crate) stamps: Option<Stamps>,
+    pub(crate) stamps: Option<StampChanges>,
 }
 
 impl Ready {
@@ -127,14 +129,6 @@ fn apply_alone(store: &mut Store, effect: Effect)
     apply_over::<Brand>(store, effect, Blank::new(1))
 }
 
-fn change_stamps(stamps: &mut Stamps, changed: Option<Stamps>)
-    ensures { stamps.new ≡ unwrap_or changed stamps.old }
-{
-    if let Some(changed) = changed {
-        *stamps = changed;
-    }
-}
-
 /// Makes room for an item more, and for the note of its text.
 fn make_rooms(timeline: &mut Numbered, shelf: &mut Shelf) -> Result<(), NoMemory>
     ensures timeline { timeline.new.items ≡ timeline.old.items }
@@ -147,11 +141,11 @@ fn make_rooms(timeline: &mut Numbered, shelf: &mut Shelf) -> Result<(), NoMemory
     shelf.note_room(1)
 }
 
-/// What an item does, and the stamps after it where they change.
-type Parts = (Effect, Option<Stamps>);
+/// What an item does, and what it changes of the stamps.
+type Parts = (Effect, Option<StampChanges>);
 
 /// What an item does, with the stamps.
-fn paired(effect: Result<Effect, NoMemory>, stamps: Option<Stamps>) -> Result<Parts, NoMemory>
+fn paired(effect: Result<Effect, NoMemory>, stamps: Option<StampChanges>) -> Result<Parts, NoMemory>
     ensures effect { IfOk result (λ parts. effect ≡ Ok parts.0) }
     ensures stamps { IfOk result (λ parts. parts.1 ≡ stamps) }
 {
@@ -164,7 +158,7 @@ fn paired(effect: Result<Effect, NoMemory>, stamps: Option<Stamps>) -> Result<Pa
     }
 }
 
-/// Makes what an item does, with all room that the store needs for it, and the stamps after it.
+/// Makes what an item does, with all room that the store needs for it, and what it changes of the stamps.
 fn make_parts(
     alloc: Global,
     store: &mut Store,
@@ -178,11 +172,12 @@ fn make_parts(
     requires named { map (λ (r : TheBoxId × ℕ). r.0) stamps.now ≡ map (λ (r : TheBoxId × TheMailbox). r.0) store.old.store.boxes }
     ensures store { store.new.store ≡ store.old.store }
     ensures does { IfOk result (λ parts. applied parts.0 store.old.store ≡ (step store.old.store item.now).0) }
-    ensures stamps { IfOk result (λ parts. unwrap_or parts.1 stamps.now ≡ stamps_after item.now.number (step store.old.store item.now).0.boxes stamps.now) }
+    ensures stamps { IfOk result (λ parts. restamped parts.1 stamps.now ≡ stamps_after item.now.number (step store.old.store item.now).0.boxes stamps.now) }
+    ensures spare { IfOk result (λ parts. HasSpare parts.1 (length stamps.now)) }
     ensures effect { IfOk result (λ parts. IsReady parts.0 store.new) }
 {
     stored_items_do_alike();
-    match changed_stamps(alloc, store, stamps, item) {
+    match stamp_changes(alloc, store, stamps, item) {
         Ok(changed) => paired(
             ready_effect(alloc, store, stored, item.deed.text_bytes()),
             changed,
@@ -232,7 +227,8 @@ fn make_beside(
     ensures item { IfOk result (λ ready. ready.item ≡ item) }
     ensures stored { IfOk result (λ ready. ready.stored ≡ item) }
     ensures does { IfOk result (λ ready. applied ready.effect store.old.store ≡ (step store.old.store item).0) }
-    ensures stamps { IfOk result (λ ready. unwrap_or ready.stamps stamps.now ≡ stamps_after item.number (step store.old.store item).0.boxes stamps.now) }
+    ensures stamps { IfOk result (λ ready. restamped ready.stamps stamps.now ≡ stamps_after item.number (step store.old.store item).0.boxes stamps.now) }
+    ensures spare { IfOk result (λ ready. HasSpare ready.stamps (length stamps.now)) }
     ensures effect { IfOk result (λ ready. IsReady ready.effect store.new) }
 {
     let parts = make_parts(alloc, store, stamps, &item, &stored);
@@ -253,7 +249,8 @@ fn make_over(
     ensures item { IfOk result (λ ready. ready.item ≡ item) }
     ensures stored { IfOk result (λ ready. ready.stored ≡ item) }
     ensures does { IfOk result (λ ready. applied ready.effect store.old.store ≡ (step store.old.store item).0) }
-    ensures stamps { IfOk result (λ ready. unwrap_or ready.stamps stamps.now ≡ stamps_after item.number (step store.old.store item).0.boxes stamps.now) }
+    ensures stamps { IfOk result (λ ready. restamped ready.stamps stamps.now ≡ stamps_after item.number (step store.old.store item).0.boxes stamps.now) }
+    ensures spare { IfOk result (λ ready. HasSpare ready.stamps (length stamps.now)) }
     ensures effect { IfOk result (λ ready. IsReady ready.effect store.new) }
 {
     match StoredItem::copy_of(alloc, &item) {
@@ -284,7 +281,8 @@ fn make_ready(
     ensures item { IfOk result (λ ready. ready.item ≡ item) }
     ensures stored { IfOk result (λ ready. ready.stored ≡ item) }
     ensures does { IfOk result (λ ready. applied ready.effect store.old.store ≡ (step store.old.store item).0) }
-    ensures stamps { IfOk result (λ ready. unwrap_or ready.stamps stamps.now ≡ stamps_after item.number (step store.old.store item).0.boxes stamps.now) }
+    ensures stamps { IfOk result (λ ready. restamped ready.stamps stamps.now ≡ stamps_after item.number (step store.old.store item).0.boxes stamps.now) }
+    ensures spare { IfOk result (λ ready. HasSpare ready.stamps (length stamps.now)) }
     ensures effect { IfOk result (λ ready. IsReady ready.effect store.new) }
     ensures items { OnOk result (0 < timeline.new.room) }
     ensures notes { OnOk result (0 < shelf.new.room) }

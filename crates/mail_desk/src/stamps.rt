@@ -1,23 +1,20 @@
-//! The stamps after an item.
-ghost use Rattle.std.specs.Prelude.{◌≡◌, ℕ, [], ◌∷◌, ◌++◌, length, map, take_while, unwrap_or, IsTrue, IfOk, OnOk, if◌then◌else◌};
+//! The stamps: rows in order that are found by halves, and changed where they lie.
+ghost use Rattle.std.specs.Prelude.{◌≡◌, ◌+◌, ◌<◌, ◌≤◌, ◌∷◌, ◌++◌, [], true, insert, length, option_to_list, reverse, take_while, vec_len, vec_capacity, IfSome, IsTrue, OnOk, if◌then◌else◌};
+ghost use Rattle.std.specs.List.{list_all};
 ghost use Rattle.std.specs.Ordering.{eq_by_cmp};
-ghost use Rattle.verb_core.specs.declared.mailbox.BoxId.{BoxId as TheBoxId};
-ghost use Rattle.verb_core.specs.declared.mailbox.Mailbox.{Mailbox as TheMailbox};
-ghost use Rattle.verb_core.specs.Boxes.{box_cmp, box_of, is_rising, row_at, has_row, add_row, add_rows, drop_row};
-ghost use Rattle.verb_core.specs.Names.{is_fixed as is_always_there, superiors, with_superiors};
-ghost use Rattle.verb_core.specs.Stamps.{stamps_after};
-ghost use Rattle.verb_core.specs.Step.{step};
-ghost use Rattle.verb_core.specs.Store.{IsValid};
-ghost use Rattle.mail_desk.specs.Stamping.{begins_with, renamed_stamps, rows_moving, rows_staying, stamped, stamped_all, stamps_by, stamps_left, stamps_moved, stamps_named, stands_before};
+ghost use Rattle.verb_core.specs.Boxes.{box_cmp, box_of, is_rising, row_at, has_row, add_row, drop_row};
+ghost use Rattle.mail_desk.specs.Stamping.{HasSpare, all_changed, begins_with, changed, is_later, restamped, stands_before};
 
-use box_store::{Store, but_last, is_at_or_below, moved_name};
+use crate::restamp::{StampChange, StampChanges};
+use box_store::Move;
 use std::alloc::Global;
 use std::cmp::Ordering;
+use std::mem;
 use undo_base::{Copies, Name, NoMemory, User, after};
-use verb_core::laws::stamps_name_mailboxes;
-use verb_core::{BoxId, Deed, Item, Stamps, Way, is_fixed, is_inbox, names_with_superiors};
+use verb_core::{BoxId, Stamps};
 
-type Row = (BoxId, u32);
+/// A mailbox with its stamp.
+pub(crate) type Row = (BoxId, u32);
 
 /// Whether the row is the mailbox of that user and name.
 fn is_row(row: &Row, user: User, name: &Name) -> bool
@@ -59,13 +56,12 @@ pub(crate) fn find_stamp(rows: &[Row], user: User, name: &Name) -> Option<u32>
     }
 }
 
-/// How many rows stand before that of the user and name.
+/// How many rows stand before that of the user and name, found by halves.
 fn place_for(rows: &[Row], user: User, name: &Name) -> usize
+    requires { IsTrue (is_rising rows.now) }
     ensures { result ≡ length (take_while (stands_before (box_of user name.now)) rows.now) }
 {
-    rows.iter()
-        .take_while(|row| is_before(row, user, name))
-        .count()
+    rows.partition_point(|row| is_before(row, user, name))
 }
 
 /// Whether the first row is the mailbox of that user and name.
@@ -76,71 +72,6 @@ fn is_first(rows: &[Row], user: User, name: &Name) -> bool
         None => false,
         Some((first, _)) => is_row(first, user, name),
     }
-}
-
-/// Whether the mailbox of that user and name has a stamp.
-fn has_stamp(rows: &[Row], user: User, name: &Name) -> bool
-    ensures { result ≡ has_row (box_of user name.now) rows.now }
-{
-    for row in rows {
-        if is_row(row, user, name) {
-            return true;
-        }
-    }
-    false
-}
-
-/// Adds a copy of a row.
-fn push_row(alloc: Global, stamps: &mut Stamps, row: &Row) -> Result<(), NoMemory>
-    ensures { OnOk result (stamps.new ≡ stamps.old ++ row.now ∷ []) }
-{
-    match row.copy(alloc) {
-        Ok(row) => stamps.push(row),
-        Err(NoMemory) => Err(NoMemory),
-    }
-}
-
-/// Adds copies of rows.
-fn push_rows(alloc: Global, stamps: &mut Stamps, rows: &[Row]) -> Result<(), NoMemory>
-    ensures { OnOk result (stamps.new ≡ stamps.old ++ rows.now) }
-{
-    for row in rows {
-        push_row(alloc, stamps, row)?;
-    }
-    Ok(())
-}
-
-/// Adds a copy of the row, if it is another mailbox's.
-fn push_other(
-    alloc: Global,
-    stamps: &mut Stamps,
-    row: &Row,
-    user: User,
-    name: &Name,
-) -> Result<(), NoMemory>
-    ensures { OnOk result (stamps.new ≡ stamps.old ++ drop_row (box_of user name.now) (row.now ∷ [])) }
-{
-    if is_row(row, user, name) {
-        Ok(())
-    } else {
-        push_row(alloc, stamps, row)
-    }
-}
-
-/// Adds copies of the rows but for that of a mailbox.
-fn push_others(
-    alloc: Global,
-    stamps: &mut Stamps,
-    rows: &[Row],
-    user: User,
-    name: &Name,
-) -> Result<(), NoMemory>
-    ensures { OnOk result (stamps.new ≡ stamps.old ++ drop_row (box_of user name.now) rows.now) }
-{
-    for row in rows {
-        push_other(alloc, stamps, row, user, name)?;
-    }
-    Ok(())
 }
 
 /// Adds the row of a mailbox.
@@ -159,364 +90,259 @@ pub(crate) fn push_stamp(
     }
 }
 
-/// Copies of rows.
-fn copied(alloc: Global, rows: &[Row]) -> Result<Stamps, NoMemory>
-    ensures { IfOk result (λ stamps. stamps ≡ rows.now) }
-{
-    let mut stamps = Stamps::new(alloc);
-    push_rows(alloc, &mut stamps, rows)?;
-    Ok(stamps)
-}
+// ---- one stamp
 
-/// The rows without that of a mailbox.
-fn without_stamp(alloc: Global, rows: &[Row], user: User, name: &Name) -> Result<Stamps, NoMemory>
-    ensures { IfOk result (λ stamps. stamps ≡ drop_row (box_of user name.now) rows.now) }
+/// Puts a row at a place. There is room for it.
+fn insert_row(rows: &mut Vec<Row>, place: usize, row: Row)
+    requires room { vec_len rows.old < vec_capacity rows.old }
+    requires place { place ≤ length rows.old.items }
+    ensures rows { rows.new.items ≡ insert rows.old.items place row }
+    ensures len { vec_len rows.new ≤ vec_len rows.old + 1 }
+    ensures capacity { vec_capacity rows.old ≤ vec_capacity rows.new }
 {
-    let mut stamps = Stamps::new(alloc);
-    push_others(alloc, &mut stamps, rows, user, name)?;
-    Ok(stamps)
-}
-
-// ---- rows that come
-
-/// Puts a row where it stands in order, in place of the one of its mailbox.
-#[tactic(auto, using(crate::proofs::Stampings::place_taken, crate::proofs::Stampings::place_within, crate::proofs::Stampings::row_set, crate::proofs::Stampings::row_inserted))]
-fn put_row(rows: &mut Vec<Row>, row: Row) -> Result<(), NoMemory>
-    ensures { OnOk result (rows.new.items ≡ add_row row.0 row.1 rows.old.items) }
-{
-    let place = place_for(rows.as_slice(), row.0.user, &row.0.name);
-    if is_first(after(rows.as_slice(), place), row.0.user, &row.0.name) {
-        rows[place] = row;
-        return Ok(());
-    }
     match rows.insert(place, row) {
-        Ok(()) => Ok(()),
-        Err(_) => Err(NoMemory),
+        Ok(()) => {}
+        Err(_) => unreachable!(),
     }
 }
 
-/// Gives a mailbox the number as its stamp.
-fn put_stamp(
-    alloc: Global,
-    rows: &mut Vec<Row>,
-    user: User,
-    name: &Name,
-    number: u32,
-) -> Result<(), NoMemory>
-    ensures { OnOk result (rows.new.items ≡ add_row (box_of user name.now) number rows.old.items) }
+/// Gives a mailbox the number as its stamp. There is room for a row.
+#[tactic(auto, using(crate::proofs::RowPlaces::place_taken, crate::proofs::RowPlaces::place_within, crate::proofs::RowPlaces::row_set, crate::proofs::RowPlaces::row_inserted))]
+fn put_row(rows: &mut Vec<Row>, id: BoxId, number: u32)
+    requires rising { IsTrue (is_rising rows.old.items) }
+    requires room { vec_len rows.old < vec_capacity rows.old }
+    ensures rows { rows.new.items ≡ add_row id number rows.old.items }
+    ensures len { vec_len rows.new ≤ vec_len rows.old + 1 }
+    ensures capacity { vec_capacity rows.old ≤ vec_capacity rows.new }
 {
-    let name = name.copy(alloc)?;
-    put_row(rows, (BoxId { user, name }, number))
-}
-
-/// Gives a mailbox that has no stamp the number.
-fn stamp(
-    alloc: Global,
-    rows: &mut Vec<Row>,
-    user: User,
-    name: &Name,
-    number: u32,
-) -> Result<(), NoMemory>
-    ensures { OnOk result (rows.new.items ≡ stamped number (box_of user name.now) rows.old.items) }
-{
-    if has_stamp(rows.as_slice(), user, name) {
-        return Ok(());
-    }
-    put_stamp(alloc, rows, user, name, number)
-}
-
-/// Gives the number to those of a user's mailboxes that have no stamp.
-fn stamp_all(
-    alloc: Global,
-    rows: &mut Vec<Row>,
-    user: User,
-    names: &[Name],
-    number: u32,
-) -> Result<(), NoMemory>
-    ensures { OnOk result (rows.new.items ≡ stamped_all number user names.now rows.old.items) }
-{
-    for name in names {
-        stamp(alloc, rows, user, name, number)?;
-    }
-    Ok(())
-}
-
-/// The rows, where the number is the stamp of those of a user's mailboxes that have none.
-fn with_stamps(
-    alloc: Global,
-    rows: &[Row],
-    user: User,
-    names: &[Name],
-    number: u32,
-) -> Result<Stamps, NoMemory>
-    ensures { IfOk result (λ stamps. stamps ≡ stamped_all number user names.now rows.now) }
-{
-    let mut stamps = copied(alloc, rows)?.into_vec();
-    stamp_all(alloc, &mut stamps, user, names, number)?;
-    Ok(Stamps::from_vec(stamps))
-}
-
-// ---- rows that move
-
-/// Adds a copy of the row, if it does not move.
-fn push_staying(
-    alloc: Global,
-    stamps: &mut Stamps,
-    row: &Row,
-    user: User,
-    source: &Name,
-) -> Result<(), NoMemory>
-    ensures { OnOk result (stamps.new ≡ stamps.old ++ rows_staying user source.now (row.now ∷ [])) }
-{
-    if is_at_or_below(&row.0, user, source) {
-        Ok(())
+    let place = place_for(rows.as_slice(), id.user, &id.name);
+    if is_first(after(rows.as_slice(), place), id.user, &id.name) {
+        rows[place] = (id, number);
     } else {
-        push_row(alloc, stamps, row)
+        insert_row(rows, place, (id, number));
     }
 }
 
-/// Copies of the rows that do not move.
-fn staying(alloc: Global, rows: &[Row], user: User, source: &Name) -> Result<Stamps, NoMemory>
-    ensures { IfOk result (λ stamps. stamps ≡ rows_staying user source.now rows.now) }
+/// Gives a mailbox that has no stamp the number. There is room for a row.
+fn make_row(rows: &mut Vec<Row>, id: BoxId, number: u32)
+    requires rising { IsTrue (is_rising rows.old.items) }
+    requires room { vec_len rows.old < vec_capacity rows.old }
+    ensures rows { rows.new.items ≡ (if has_row id rows.old.items then rows.old.items else add_row id number rows.old.items) }
+    ensures len { vec_len rows.new ≤ vec_len rows.old + 1 }
+    ensures capacity { vec_capacity rows.old ≤ vec_capacity rows.new }
 {
-    let mut stamps = Stamps::new(alloc);
-    for row in rows {
-        push_staying(alloc, &mut stamps, row, user, source)?;
+    match find_stamp(rows.as_slice(), id.user, &id.name) {
+        Some(_) => drop(id),
+        None => put_row(rows, id, number),
     }
-    Ok(stamps)
 }
 
-/// Adds the row with its new name and the number, if it moves.
-fn push_moving(
-    alloc: Global,
-    stamps: &mut Stamps,
-    row: &Row,
-    number: u32,
-    user: User,
-    source: &Name,
-    target: &Name,
-) -> Result<(), NoMemory>
-    ensures { OnOk result (stamps.new ≡ stamps.old ++ rows_moving number user source.now target.now (row.now ∷ [])) }
+/// Takes the stamp of a mailbox out, and tells whether it had one.
+fn take_row(rows: &mut Vec<Row>, user: User, name: &Name) -> bool
+    requires rising { IsTrue (is_rising rows.old.items) }
+    ensures found { result ≡ has_row (box_of user name.now) rows.old.items }
+    ensures rows { rows.new.items ≡ drop_row (box_of user name.now) rows.old.items }
+    ensures len { vec_len rows.new ≤ vec_len rows.old }
+    ensures fewer { result ≡ true → vec_len rows.new < vec_len rows.old }
+    ensures capacity { vec_capacity rows.new ≡ vec_capacity rows.old }
 {
-    if is_at_or_below(&row.0, user, source) {
-        let name = moved_name(alloc, source, target, &row.0.name)?;
-        stamps.push((BoxId { user, name }, number))
+    let place = place_for(rows.as_slice(), user, name);
+    if is_first(after(rows.as_slice(), place), user, name) {
+        rows.remove(place);
+        return true;
+    }
+    false
+}
+
+/// Gives a mailbox another name and the number, where it has a stamp.
+fn move_row(rows: &mut Vec<Row>, user: User, number: u32, moved: Move)
+    requires { IsTrue (is_rising rows.old.items) }
+    ensures rows { rows.new.items ≡ changed number user (StampChange.Moved moved) rows.old.items }
+    ensures len { vec_len rows.new ≤ vec_len rows.old }
+    ensures capacity { vec_capacity rows.old ≤ vec_capacity rows.new }
+{
+    let Move { from, to } = moved;
+    if take_row(rows, user, &from) {
+        put_row(rows, BoxId { user, name: to }, number);
     } else {
-        Ok(())
+        drop(to);
     }
 }
 
-/// The rows that move, each with its new name and the number.
-fn moving(
-    alloc: Global,
-    rows: &[Row],
-    number: u32,
-    user: User,
-    source: &Name,
-    target: &Name,
-) -> Result<Stamps, NoMemory>
-    ensures { IfOk result (λ stamps. stamps ≡ rows_moving number user source.now target.now rows.now) }
-{
-    let mut stamps = Stamps::new(alloc);
-    for row in rows {
-        push_moving(alloc, &mut stamps, row, number, user, source, target)?;
-    }
-    Ok(stamps)
-}
+// ---- all that an item changes
 
-/// Puts copies of rows where they stand in order.
-fn put_rows(alloc: Global, rows: &mut Vec<Row>, more: &[Row]) -> Result<(), NoMemory>
-    ensures { OnOk result (rows.new.items ≡ add_rows more.now rows.old.items) }
+/// What becomes of one stamp. There is room for a row.
+fn change_row(rows: &mut Vec<Row>, user: User, number: u32, change: StampChange)
+    requires rising { IsTrue (is_rising rows.old.items) }
+    requires room { vec_len rows.old < vec_capacity rows.old }
+    ensures rows { rows.new.items ≡ changed number user change rows.old.items }
+    ensures len { vec_len rows.new ≤ vec_len rows.old + 1 }
+    ensures capacity { vec_capacity rows.old ≤ vec_capacity rows.new }
 {
-    for i in (0..more.len()).rev() {
-        put_row(rows, more[i].copy(alloc)?)?;
-    }
-    Ok(())
-}
-
-/// The stamps where a mailbox and its inferiors have new names.
-fn moved(
-    alloc: Global,
-    rows: &[Row],
-    number: u32,
-    user: User,
-    source: &Name,
-    target: &Name,
-) -> Result<Stamps, NoMemory>
-    ensures { IfOk result (λ stamps. stamps ≡ stamps_moved number user source.now target.now rows.now) }
-{
-    let mut stamps = staying(alloc, rows, user, source)?.into_vec();
-    let moving = moving(alloc, rows, number, user, source, target)?;
-    put_rows(alloc, &mut stamps, moving.as_slice())?;
-    Ok(Stamps::from_vec(stamps))
-}
-
-/// The stamps where a mailbox has a new name, below superiors that are there.
-fn named(
-    alloc: Global,
-    rows: Stamps,
-    number: u32,
-    user: User,
-    source: &Name,
-    target: &Name,
-) -> Result<Stamps, NoMemory>
-    ensures { IfOk result (λ stamps. stamps ≡ stamps_named number user source.now target.now rows) }
-{
-    if !is_inbox(source.bytes()) {
-        return moved(alloc, rows.as_slice(), number, user, source, target);
-    }
-    let mut stamps = rows.into_vec();
-    put_stamp(alloc, &mut stamps, user, target, number)?;
-    Ok(Stamps::from_vec(stamps))
-}
-
-/// The stamps where a mailbox has a new name, and the superiors that it lacks are made.
-fn renamed(
-    alloc: Global,
-    rows: &[Row],
-    number: u32,
-    user: User,
-    source: &Name,
-    target: &Name,
-) -> Result<Stamps, NoMemory>
-    ensures { IfOk result (λ stamps. stamps ≡ stamps_named number user source.now target.now (stamped_all number user (superiors target.now) rows.now)) }
-{
-    let names = names_with_superiors(alloc, target)?;
-    let stamps = with_stamps(alloc, rows, user, but_last(names.as_slice()), number)?;
-    named(alloc, stamps, number, user, source, target)
-}
-
-// ---- by deeds
-
-fn is_there(store: &Store, user: User, name: &Name) -> bool
-    ensures { result ≡ has_row (box_of user name.now) store.now.store.boxes }
-{
-    store.mailbox(user, name).is_some()
-}
-
-/// The stamps where a mailbox is left: INBOX stays, and one that has an inferior.
-fn left(
-    alloc: Global,
-    store: &Store,
-    rows: &[Row],
-    user: User,
-    source: &Name,
-) -> Result<Stamps, NoMemory>
-    ensures { IfOk result (λ stamps. stamps ≡ stamps_left user source.now store.now.store.boxes rows.now) }
-{
-    if is_inbox(source.bytes()) || store.has_inferior(user, source) {
-        copied(alloc, rows)
-    } else {
-        without_stamp(alloc, rows, user, source)
-    }
-}
-
-/// The stamps after a RENAME that goes a way.
-fn after_rename(
-    alloc: Global,
-    store: &Store,
-    rows: &[Row],
-    way: Way,
-    number: u32,
-    user: User,
-    source: &Name,
-    target: &Name,
-) -> Result<Option<Stamps>, NoMemory>
-    ensures { IfOk result (λ changed. unwrap_or changed rows.now ≡ renamed_stamps way number user source.now target.now store.now.store.boxes rows.now) }
-{
-    match way {
-        Way::NoSource => Ok(None),
-        Way::Merged => Ok(Some(left(alloc, store, rows, user, source)?)),
-        Way::Plain => Ok(Some(renamed(alloc, rows, number, user, source, target)?)),
-    }
-}
-
-/// The stamps after a CREATE.
-fn after_create(
-    alloc: Global,
-    store: &Store,
-    rows: &[Row],
-    number: u32,
-    user: User,
-    mailbox: &Name,
-) -> Result<Option<Stamps>, NoMemory>
-    ensures { IfOk result (λ changed. unwrap_or changed rows.now ≡ (if has_row (box_of user mailbox.now) store.now.store.boxes then rows.now else stamped_all number user (with_superiors mailbox.now) rows.now)) }
-{
-    if is_there(store, user, mailbox) {
-        return Ok(None);
-    }
-    let names = names_with_superiors(alloc, mailbox)?;
-    Ok(Some(with_stamps(alloc, rows, user, names.as_slice(), number)?))
-}
-
-/// The stamps after a DELETE.
-fn after_delete(
-    alloc: Global,
-    store: &Store,
-    rows: &[Row],
-    user: User,
-    mailbox: &Name,
-) -> Result<Option<Stamps>, NoMemory>
-    ensures { IfOk result (λ changed. unwrap_or changed rows.now ≡ (if is_always_there mailbox.now then rows.now else stamps_left user mailbox.now store.now.store.boxes rows.now)) }
-{
-    if is_fixed(mailbox.bytes()) {
-        return Ok(None);
-    }
-    Ok(Some(left(alloc, store, rows, user, mailbox)?))
-}
-
-/// The stamps after a deed, where it changes the names of mailboxes.
-fn restamped(
-    alloc: Global,
-    store: &Store,
-    rows: &[Row],
-    number: u32,
-    user: User,
-    deed: &Deed,
-) -> Result<Option<Stamps>, NoMemory>
-    ensures { IfOk result (λ changed. unwrap_or changed rows.now ≡ stamps_by number user deed.now store.now.store.boxes rows.now) }
-{
-    match deed {
-        Deed::Create { mailbox } => after_create(alloc, store, rows, number, user, mailbox),
-        Deed::Rename { mailbox, target } => {
-            let way = store.way(user, mailbox, target);
-            after_rename(alloc, store, rows, way, number, user, mailbox, target)
+    match change {
+        StampChange::Made(name) => make_row(rows, BoxId { user, name }, number),
+        StampChange::Put(name) => put_row(rows, BoxId { user, name }, number),
+        StampChange::Gone(name) => {
+            let _found = take_row(rows, user, &name);
         }
-        Deed::Delete { mailbox, .. } => after_delete(alloc, store, rows, user, mailbox),
-        Deed::Deliver { .. } => Ok(None),
-        Deed::Append { .. } => Ok(None),
-        Deed::Fetch { .. } => Ok(None),
-        Deed::Store { .. } => Ok(None),
-        Deed::Copy { .. } => Ok(None),
-        Deed::List { .. } => Ok(None),
-        Deed::Status { .. } => Ok(None),
-        Deed::Select { .. } => Ok(None),
-        Deed::Expunge { .. } => Ok(None),
-        Deed::Close { .. } => Ok(None),
-        Deed::Act(_) => Ok(None),
-        Deed::Notice { .. } => Ok(None),
+        StampChange::Moved(moved) => move_row(rows, user, number, moved),
     }
 }
 
-/// The stamps after an item, where it changes the names of mailboxes.
-pub(crate) fn changed_stamps(
-    alloc: Global,
-    store: &Store,
-    stamps: &Stamps,
-    item: &Item,
-) -> Result<Option<Stamps>, NoMemory>
-    requires valid { IsValid store.now.store }
-    requires named { map (λ (r : TheBoxId × ℕ). r.0) stamps.now ≡ map (λ (r : TheBoxId × TheMailbox). r.0) store.now.store.boxes }
-    ensures { IfOk result (λ changed. unwrap_or changed stamps.now ≡ stamps_after item.now.number (step store.now.store item.now).0.boxes stamps.now) }
+/// The same of some, one after the other.
+#[tactic(auto, using(crate::proofs::RowPlaces::rising_changed))]
+fn change_all(rows: &mut Vec<Row>, user: User, number: u32, changes: Vec<StampChange>)
+    requires rising { IsTrue (is_rising rows.old.items) }
+    requires room { vec_len rows.old + length changes.items ≤ vec_capacity rows.old }
+    ensures rows { rows.new.items ≡ all_changed number user changes.items rows.old.items }
+    ensures len { vec_len rows.new ≤ vec_len rows.old + length changes.items }
+    ensures capacity { vec_capacity rows.old ≤ vec_capacity rows.new }
 {
-    stamps_name_mailboxes();
-    let user = item.by.unwrap_or(User(0));
-    restamped(
-        alloc,
-        store,
-        stamps.as_slice(),
-        item.number,
+    for change in changes {
+        change_row(rows, user, number, change);
+    }
+}
+
+// ---- many changes, before the rows of later users
+
+/// Gives the last row, where it is a later user's.
+fn take_later(rows: &mut Vec<Row>, user: User) -> Option<Row>
+    ensures items { rows.old.items ≡ rows.new.items ++ option_to_list result }
+    ensures later { IfSome result (λ r. IsTrue (is_later user r)) }
+    ensures len { vec_len rows.new + length (option_to_list result) ≡ vec_len rows.old }
+    ensures capacity { vec_capacity rows.new ≡ vec_capacity rows.old }
+{
+    match rows.pop() {
+        None => None,
+        Some(row) => {
+            if user.0 < row.0.user.0 {
+                return Some(row);
+            }
+            rows.push_reserved(row);
+            None
+        }
+    }
+}
+
+/// Sets the rows of later users aside, the last first. There is room for them.
+#[tactic(auto, using(crate::proofs::LaterRows::aside_more, crate::proofs::LaterRows::later_more))]
+fn set_aside(rows: &mut Vec<Row>, aside: &mut Vec<Row>, user: User)
+    requires empty { aside.old.items ≡ [] }
+    requires room { vec_len rows.old ≤ vec_capacity aside.old }
+    ensures rows { rows.new.items ++ reverse aside.new.items ≡ rows.old.items }
+    ensures later { IsTrue (list_all (is_later user) (reverse aside.new.items)) }
+    ensures len { vec_len rows.new + vec_len aside.new ≡ vec_len rows.old }
+    ensures capacity { vec_capacity rows.new ≡ vec_capacity rows.old }
+{
+    while let Some(row) = take_later(rows, user) {
+        aside.push_reserved(row);
+    }
+}
+
+/// Puts what was set aside behind the rows. There is room for it.
+fn put_back(rows: &mut Vec<Row>, mut aside: Vec<Row>)
+    requires room { vec_len rows.old + vec_len aside ≤ vec_capacity rows.old }
+    ensures { rows.new.items ≡ rows.old.items ++ reverse aside.items }
+{
+    aside.reverse();
+    match rows.append(&mut aside) {
+        Ok(()) => {}
+        Err(_) => unreachable!(),
+    }
+}
+
+/// What becomes of some stamps, while the rows of later users lie aside: each change shifts the user's own rows alone.
+fn change_before(
+    rows: &mut Vec<Row>,
+    mut aside: Vec<Row>,
+    user: User,
+    number: u32,
+    changes: Vec<StampChange>,
+)
+    requires rising { IsTrue (is_rising rows.old.items) }
+    requires room { vec_len rows.old + length changes.items ≤ vec_capacity rows.old }
+    requires empty { aside.items ≡ [] }
+    requires aside { vec_len rows.old ≤ vec_capacity aside }
+    ensures { rows.new.items ≡ all_changed number user changes.items rows.old.items }
+{
+    set_aside(rows, &mut aside, user);
+    change_all(rows, user, number, changes);
+    put_back(rows, aside);
+}
+
+/// So many changes shift the rows of later users, each for itself.
+const MOST_SHIFTS: usize = 4;
+
+/// What becomes of some stamps: where they are few, the rows of later users are shifted, and else set aside.
+fn change_rows(
+    rows: &mut Vec<Row>,
+    aside: Vec<Row>,
+    user: User,
+    number: u32,
+    changes: Vec<StampChange>,
+)
+    requires rising { IsTrue (is_rising rows.old.items) }
+    requires room { vec_len rows.old + length changes.items ≤ vec_capacity rows.old }
+    requires empty { aside.items ≡ [] }
+    requires aside { vec_len rows.old ≤ vec_capacity aside }
+    ensures { rows.new.items ≡ all_changed number user changes.items rows.old.items }
+{
+    if changes.len() <= MOST_SHIFTS {
+        drop(aside);
+        change_all(rows, user, number, changes);
+    } else {
+        change_before(rows, aside, user, number, changes);
+    }
+}
+
+// ---- where the stamps lie
+
+/// The rows with room for so many more, and an empty list with room for them all: where they lie, or else moved into the spare
+/// list, so that theirs is empty.
+fn with_room(mut rows: Vec<Row>, mut spare: Vec<Row>, count: usize) -> (Vec<Row>, Vec<Row>)
+    requires empty { spare.items ≡ [] }
+    requires room { length rows.items + count ≤ vec_capacity spare }
+    ensures rows { result.0.items ≡ rows.items }
+    ensures room { vec_len result.0 + count ≤ vec_capacity result.0 }
+    ensures empty { result.1.items ≡ [] }
+    ensures aside { vec_len result.0 ≤ vec_capacity result.1 }
+{
+    if count <= rows.capacity() - rows.len() {
+        return (rows, spare);
+    }
+    match spare.append(&mut rows) {
+        Ok(()) => (spare, rows),
+        Err(_) => unreachable!(),
+    }
+}
+
+fn change_some(stamps: &mut Stamps, changes: StampChanges)
+    requires rising { IsTrue (is_rising stamps.old) }
+    requires empty { changes.spare.items ≡ [] }
+    requires room { length stamps.old + length changes.list.items ≤ vec_capacity changes.spare }
+    ensures { stamps.new ≡ all_changed changes.number changes.user changes.list.items stamps.old }
+{
+    let StampChanges {
         user,
-        &item.deed,
-    )
+        number,
+        list,
+        spare,
+    } = changes;
+    let alloc = *spare.allocator();
+    let rows = mem::replace(stamps, Stamps::new(alloc)).into_vec();
+    let (mut rows, aside) = with_room(rows, spare, list.len());
+    change_rows(&mut rows, aside, user, number, list);
+    *stamps = Stamps::from_vec(rows);
+}
+
+/// Changes the stamps where they lie, with room in the spare list where they have none. It takes no memory.
+pub(crate) fn change_stamps(stamps: &mut Stamps, changes: Option<StampChanges>)
+    requires rising { IsTrue (is_rising stamps.old) }
+    requires spare { HasSpare changes (length stamps.old) }
+    ensures { stamps.new ≡ restamped changes stamps.old }
+{
+    match changes {
+        Some(changes) => change_some(stamps, changes),
+        None => {}
+    }
 }

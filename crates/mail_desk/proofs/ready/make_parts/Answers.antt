@@ -1,5 +1,4 @@
-use Rattle.std.proofs.Common.{◌≡◌, ℕ, List, Option, IfOk, ap, subst, unwrap_or, ◌∙◌}
-use Rattle.verb_core.specs.declared.mailbox.BoxId.{BoxId}
+use Rattle.std.proofs.Common.{◌≡◌, Option, IfOk, ap, length, subst, ◌∙◌}
 use Rattle.verb_core.specs.Stamps.{stamps_after}
 use Rattle.verb_core.specs.declared.item.Item.{Item}
 use Rattle.verb_core.specs.declared.item.Shown.{Shown}
@@ -8,11 +7,13 @@ use Rattle.verb_core.specs.Store.{MailStore}
 use Rattle.stored_items.specs.Stored.{step_text}
 use Rattle.box_store.specs.declared.effect.Effect.{Effect}
 use Rattle.box_store.specs.Effects.{IsReady, applied}
+use Rattle.mail_desk.specs.declared.restamp.StampChanges.{StampChanges}
+use Rattle.mail_desk.specs.Stamping.{HasSpare, restamped}
 use Rattle.mail_desk.proofs.Readied.{part_is, through}
 use Rattle.mail_desk.proofs.ready.make_parts.Goals as goal
 
 abbrev Made : Type 0
-Made = Effect × Option (List (BoxId × ℕ))
+Made = Effect × Option StampChanges
 
 pub returns-in-Ok-clause-does : goal.returns-in-Ok-clause-does
 returns-in-Ok-clause-does c =
@@ -26,7 +27,11 @@ returns-in-Ok-clause-does c =
 pub returns-in-Ok-clause-stamps : goal.returns-in-Ok-clause-stamps
 returns-in-Ok-clause-stamps c =
     part_is c.paired.result (λ (p : Made). p.1) c.in-Ok.changed c.paired.ensures.stamps
-    (λ (s : Option (List (BoxId × ℕ))). unwrap_or s c.args.stamps.now ≡ stamps_after c.args.item.now.number (step c.args.store.now.store c.args.item.now).0.boxes c.args.stamps.now) c.in-Ok.ensures
+    (λ (s : Option StampChanges). restamped s c.args.stamps.now ≡ stamps_after c.args.item.now.number (step c.args.store.now.store c.args.item.now).0.boxes c.args.stamps.now) c.in-Ok.ensures.changes
+
+pub returns-in-Ok-clause-spare : goal.returns-in-Ok-clause-spare
+returns-in-Ok-clause-spare c =
+    part_is c.paired.result (λ (p : Made). p.1) c.in-Ok.changed c.paired.ensures.stamps (λ (s : Option StampChanges). HasSpare s (length c.args.stamps.now)) c.in-Ok.ensures.spare
 
 pub returns-in-Ok-clause-effect : goal.returns-in-Ok-clause-effect
 returns-in-Ok-clause-effect c =

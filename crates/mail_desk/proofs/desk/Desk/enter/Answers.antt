@@ -10,6 +10,7 @@ use Rattle.store_kept.specs.Texts.{items_behind}
 use Rattle.mail_desk.specs.Timeline.{SizesOf}
 use Rattle.mail_desk.proofs.BodyTexts.{sizes_on}
 use Rattle.mail_desk.proofs.Going.{desk_goes_on}
+use Rattle.mail_desk.proofs.Stampings.{rise_alike}
 use Rattle.mail_desk.proofs.Timelines.{lower, others_below}
 use Rattle.mail_desk.proofs.desk.Desk.enter.Goals as goal
 
@@ -18,6 +19,14 @@ push-requires-clause-higher c =
     let d = c.self.inside in
     let can = subst (λ (h : Held). CanEnter c.args.ready h) (sym c.self.view_is) c.requires in
     subst (λ (i : Item). AllByRecursion (λ (j : Item). j.number < i.number) d.timeline.items) (sym can.stored) (lower d.next d.timeline.items c.args.ready.item c.self.invariant.desk.below can.number)
+
+pub change_stamps-requires-clause-rising : goal.change_stamps-requires-clause-rising
+change_stamps-requires-clause-rising c =
+    let d = c.self.inside in
+    rise_alike d.stamps d.store.store.boxes c.self.invariant.desk.stamps c.self.invariant.desk.valid.rising
+
+pub change_stamps-requires-clause-spare : goal.change_stamps-requires-clause-spare
+change_stamps-requires-clause-spare c = let can = subst (λ (h : Held). CanEnter c.args.ready h) (sym c.self.view_is) c.requires in can.spare
 
 pub invariant_of-self : goal.invariant_of-self
 invariant_of-self c =

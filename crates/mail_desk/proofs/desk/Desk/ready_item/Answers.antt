@@ -60,6 +60,7 @@ returns-clause-ready c =
     made.stored
     made.does
     made.stamps
+    made.spare
     made.effect
     made.items
     made.notes)
