@@ -1,7 +1,7 @@
 -- What becomes of a request for a cycle, from what a cycle leaves in memory and what became of sealing it.
-use Rattle.std.proofs.Common.{◌≡◌, ◌<◌, ◌≤◌, ◌-◌, suc, ◌∷◌, ◌++◌, ◌∙◌, ◌&&◌, [], ℕ, take, drop, List, Bool, true, false, Option, Some, None, Result, Ok, Err, IfOk, OnOk, inl, inr, map, refl, sym, ap, subst, arith}
-use Rattle.std.specs.Prelude.{◌⊎◌, ◌+◌, OnErr, if◌then◌else◌, is_none, option_and_then, length, IsSome, IsTrue}
-use Rattle.std.proofs.lemmas.List.{length-append, length-map, length-take-le, take-append-drop}
+use Rattle.std.proofs.Common.{◌≡◌, ◌<◌, ◌≤◌, ◌-◌, ◌∷◌, ◌++◌, ◌∙◌, ◌&&◌, [], ℕ, take, drop, List, Bool, true, false, Option, Some, None, Result, Ok, Err, IfOk, OnOk, inl, inr, map, refl, sym, ap, subst, arith}
+use Rattle.std.specs.Prelude.{◌+◌, OnErr, if◌then◌else◌, is_none, length, IsSome, IsTrue}
+use Rattle.std.proofs.lemmas.List.{take-append-drop}
 use Rattle.cycle_rules.specs.Judging.{shown_after}
 use Rattle.std.proofs.lemmas.Bool.{eq-eqb}
 use Rattle.std.specs.List.{AllByRecursion}
@@ -9,7 +9,6 @@ use Rattle.undo_base.specs.declared.keys.User.{User}
 use Rattle.undo_outside.specs.Disk.{DiskTold, IsHonest}
 use Rattle.seal_log.specs.declared.place.Place.{Place}
 use Rattle.seal_log.specs.Journal.{LiesAt}
-use Rattle.shelf.specs.declared.note.Note.{Note}
 use Rattle.seal_log.specs.declared.fault.SealFault.{SealFault}
 use Rattle.seal_log.specs.declared.fault.SealFault.TheVariants as log_faults
 use Rattle.seal_log.specs.Settled.{ReadsAlone}
@@ -17,7 +16,6 @@ use Rattle.verb_core.specs.declared.item.Item.{Item}
 use Rattle.verb_core.specs.declared.item.Shown.{Shown}
 use Rattle.verb_core.specs.declared.mailbox.BoxId.{BoxId}
 use Rattle.verb_core.specs.declared.mailbox.Mailbox.{Mailbox}
-use Rattle.verb_core.specs.declared.mailbox.Body.{Body}
 use Rattle.verb_core.specs.Fates.{IsBase, IsFresh as IsNewTo}
 use Rattle.verb_core.specs.Items.{IsTimeline, IsWellFormed, NumbersApart}
 use Rattle.verb_core.specs.Step.{run}
@@ -34,7 +32,7 @@ use Rattle.store_kept.specs.Kept.{IsRun, Kept, newest_at, report_of, rewound, wi
 use Rattle.store_kept.specs.Texts.{all_bodies, items_asked}
 use Rattle.shelf.specs.Marks.{marks_at_or_before}
 use Rattle.stored_items.specs.Stored.{AllHeard}
-use Rattle.repair_desk.specs.Repairs.{are_known, numbers_of, position}
+use Rattle.repair_desk.specs.Repairs.{are_known, position}
 use Rattle.repair_desk.proofs.Everywhere.{rest_of}
 use Rattle.repair_desk.proofs.Points.{within as within_point}
 use Rattle.mail_cycle.specs.declared.refused.CycleRefused.{CycleRefused}
@@ -67,7 +65,7 @@ use Rattle.desk_journal.specs.Going.{read_on}
 use Rattle.desk_journal.specs.Permanence.{IsSound}
 use Rattle.desk_journal.specs.Reading.{IsStill, ReadsWell}
 use Rattle.desk_journal.specs.Records.{after_cycle_record, after_due, after_record, can_rewind, is_spelled}
-use Rattle.desk_journal.specs.Sealing.{ReadNoTexts, IsRecordTo, Seals, SealsPayloads}
+use Rattle.desk_journal.specs.Sealing.{IsRecordTo, Seals, SealsPayloads}
 use Rattle.desk_journal.specs.Stored.{HoldsTexts, IsFresh, MarksLie, TextsNoted, TextsStored, store_at}
 use Rattle.mail_cycle.specs.declared.beginning.Beginning.{Beginning}
 use Rattle.time_desk.specs.Serving.{CanServe, IsNewest, Serves, unmarked}

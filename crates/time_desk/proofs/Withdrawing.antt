@@ -1,6 +1,6 @@
 -- What becomes of a withdrawal, from what it leaves in memory and what became of sealing it.
 use Rattle.std.proofs.Common.{◌≡◌, ◌∙◌, ◌+◌, ◌-◌, ◌≤◌, ◌==◌, ◌&&◌, ℕ, Bool, true, false, cond, arith, ap, sym, subst, refl, List, [], ◌∷◌, ◌++◌, drop, length, map, take, Option, Some, None, Result, Ok, Err, inl, inr, ⊎_elim}
-use Rattle.std.specs.Prelude.{IfErr, OnErr, OnOk, IsSome, IsTrue, if◌then◌else◌, is_none, option_and_then}
+use Rattle.std.specs.Prelude.{IfErr, OnOk, IsSome, IsTrue, if◌then◌else◌, is_none, option_and_then}
 use Rattle.std.proofs.lemmas.Bool.{eq-eqb}
 use Rattle.std.proofs.lemmas.Bool.Decides.{nat_tests}
 use Rattle.std.proofs.lemmas.List.{length-append, length-drop, length-map, length-take-le}

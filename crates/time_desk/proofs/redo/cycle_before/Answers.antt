@@ -1,9 +1,7 @@
 use Rattle.std.proofs.Common.{◌≡◌, refl, subst}
-use Rattle.std.specs.Prelude.{OnErr}
 use Rattle.store_kept.specs.Kept.{Kept}
 use Rattle.cycle_rules.specs.Asking.{IsRewinds, due_anew}
 use Rattle.mail_cycle.specs.Refusing.{IsRefusalOf}
-use Rattle.desk_journal.specs.Lasting.{PastTold}
 use Rattle.time_desk.proofs.Rewinding.{reworks_as, asked_can, comes_back, cycle_failed, cycle_redone, cycle_undue, cycle_wanting, of_begun}
 use Rattle.time_desk.proofs.redo.cycle_before.Goals as goal
 

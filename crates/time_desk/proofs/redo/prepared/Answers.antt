@@ -1,5 +1,4 @@
 use Rattle.std.proofs.Common.{◌∙◌, ap, subst, sym, ℕ}
-use Rattle.mail_cycle.specs.declared.beginning.Beginning.{Beginning}
 use Rattle.store_kept.specs.Kept.{Kept}
 use Rattle.time_desk.specs.Serving.{IsNewest, Serves}
 use Rattle.time_desk.proofs.redo.prepared.Goals as goal

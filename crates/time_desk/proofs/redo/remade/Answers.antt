@@ -1,5 +1,4 @@
 use Rattle.std.proofs.Common.{List, ap, ap₂, ℕ}
-use Rattle.store_kept.specs.Kept.{Kept}
 use Rattle.mail_desk.specs.declared.remake.Left.{Left}
 use Rattle.mail_desk.specs.Remaking.{left_as}
 use Rattle.time_desk.proofs.Standings.{if_ok}

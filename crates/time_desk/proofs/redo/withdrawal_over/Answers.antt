@@ -1,5 +1,4 @@
 use Rattle.std.proofs.Common.{◌≡◌, ◌∙◌, Err, Some, true, ap, refl, subst, sym}
-use Rattle.withdraw.specs.declared.undone.UndoneBehind.{UndoneBehind}
 use Rattle.store_kept.specs.Coming.{Comes, ComesIf}
 use Rattle.store_kept.specs.Kept.{Kept}
 use Rattle.cycle_rules.specs.Repairing.{leaves_numbers_for}

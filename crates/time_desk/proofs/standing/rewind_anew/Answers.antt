@@ -1,19 +1,16 @@
-use Rattle.std.proofs.Common.{◌≡◌, ◌∙◌, ℕ, true, Bool, List, Result, Ok, Err, Some, ap, subst, sym}
-use Rattle.std.specs.Prelude.{IfOk, OnOk}
+use Rattle.std.proofs.Common.{◌∙◌, Bool, List, Some, ap, subst, sym}
 use Rattle.verb_bytes.specs.declared.journal.JournalRecord.TheVariants.{Cycle}
 use Rattle.verb_bytes.specs.Spelling.{record_bytes}
 use Rattle.verb_core.specs.declared.item.Item.{Item}
 use Rattle.store_kept.specs.Kept.{Kept}
 use Rattle.store_kept.specs.Texts.{items_asked}
-use Rattle.seal_log.specs.declared.fault.ReadFault.{ReadFault}
 use Rattle.cycle_rules.specs.Asking.{after_cycle, due_anew}
 use Rattle.mail_cycle.proofs.Made.{made_whole}
 use Rattle.cycle_rules.specs.Cycles.{repair_of}
-use Rattle.mail_desk.specs.Held.{Held}
 use Rattle.mail_desk.specs.Timeline.{SizesOf}
 use Rattle.desk_journal.specs.Records.{after_due}
 use Rattle.desk_journal.specs.Telling.{HoldsHeld}
-use Rattle.desk_journal.specs.Stored.{AreNoted, MarkedBefore, MarksLie, TextsNoted}
+use Rattle.desk_journal.specs.Stored.{MarkedBefore, MarksLie}
 use Rattle.desk_journal.proofs.Marking.{marked_front}
 use Rattle.time_desk.specs.Standing.{Performs}
 use Rattle.time_desk.proofs.Marking.{made_marks}

@@ -1,5 +1,4 @@
-use Rattle.std.proofs.Common.{◌≡◌, ◌∙◌, ℕ, true, Bool, List, Some, ap, subst, sym}
-use Rattle.std.specs.Prelude.{IfOk, OnOk}
+use Rattle.std.proofs.Common.{◌∙◌, Bool, List, Some, ap, subst, sym}
 use Rattle.verb_core.specs.declared.item.Item.{Item}
 use Rattle.store_kept.specs.Kept.{Kept}
 use Rattle.store_kept.specs.Texts.{items_asked}

@@ -1,4 +1,4 @@
-use Rattle.std.proofs.Common.{◌∙◌, ℕ, List, subst, sym}
+use Rattle.std.proofs.Common.{◌∙◌, ℕ, subst, sym}
 use Rattle.seal_log.specs.Loads.{IsSurveyed}
 use Rattle.seal_log.specs.Log.{end_gate, is_cut, last_gate}
 use Rattle.desk_journal.specs.Stored.{SettledTexts}

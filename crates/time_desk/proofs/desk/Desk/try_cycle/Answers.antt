@@ -1,4 +1,4 @@
-use Rattle.std.proofs.Common.{Result, IfOk, sym, subst, ◌∙◌}
+use Rattle.std.proofs.Common.{Result, IfOk, sym, subst}
 use Rattle.paradox.specs.declared.reports.Report.{Report}
 use Rattle.time_desk.specs.declared.fault.CycleFault.{CycleFault}
 use Rattle.time_desk.specs.Cycling.{Tries}

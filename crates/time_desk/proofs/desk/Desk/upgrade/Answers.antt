@@ -1,6 +1,6 @@
 use Rattle.std.proofs.Common.{◌≡◌, ◌∙◌, true, inl, OnOk, refl, subst, sym}
 use Rattle.mail_cycle.specs.Permanence.{UidsStay}
-use Rattle.store_kept.specs.Kept.{Kept, upgraded}
+use Rattle.store_kept.specs.Kept.{upgraded}
 use Rattle.desk_journal.specs.Lasting.{Lasting, lasting}
 use Rattle.desk_journal.specs.Submitting.{UpgradesOnce}
 use Rattle.desk_journal.proofs.Upgrading.{upgraded_again, upgraded_once}

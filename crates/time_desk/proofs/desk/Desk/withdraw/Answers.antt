@@ -1,6 +1,5 @@
-use Rattle.std.proofs.Common.{◌≡◌, ◌∙◌, ◌+◌, ◌≤◌, IfErr, IfOk, OnOk, Some, inl, length, refl, subst, sym}
+use Rattle.std.proofs.Common.{◌≡◌, ◌+◌, ◌≤◌, IfErr, IfOk, OnOk, Some, inl, length, refl, subst, sym}
 use Rattle.std.specs.Prelude.{OnErr}
-use Rattle.withdraw.specs.declared.undone.UndoneBehind.{UndoneBehind}
 use Rattle.store_kept.specs.Kept.{undone_of}
 use Rattle.store_kept.specs.Texts.{items_asked}
 use Rattle.cycle_rules.specs.Withdrawals.{withdrawn_at}
