@@ -26,9 +26,9 @@ use Rattle.console_http.specs.Routes.{Choice, route_of}
 use Rattle.console_replies.specs.Bodies.{upgraded_data}
 use Rattle.console_session.specs.declared.reply.After.TheVariants.{Closes}
 use Rattle.console_session.specs.declared.reply.Reply.{Reply}
-use Rattle.console_session.specs.Answers.{Answer, answer, body_found, pointless, uncycled}
+use Rattle.console_session.specs.Answers.{Answer, answer, body_found, is_text_recorded, pointless, uncycled}
 use Rattle.console_session.specs.Turn.{Turn, chosen, done, failed, numberless, tells, upgrade_done}
-use Rattle.console_session.specs.Hindrance.{Hindrance, Clear, Refused, Unheard, Unanswered, Unsealed, Untold, Unwritten, UnwrittenUnheard, Unread, UnreadRefused, UnreadUnheard, Misread, acted_under, found_under, gone_back_under, hindered, lost, read_under, rewound_under, routed_under, sealed_under, starved, told_under, tried_under, upgraded_under}
+use Rattle.console_session.specs.Hindrance.{Hindrance, Clear, Refused, Unheard, Unanswered, Unsealed, Untold, Unwritten, UnwrittenUnheard, Unread, UnreadRefused, UnreadUnheard, Misread, acted_under, found_under, gone_back_under, hindered, lost, read_under, rewound_under, routed_under, sealed_under, starved, told_under, tried_under, upgraded_under, where_read}
 use Rattle.console_session.specs.Hearing.{Hears, AreServed, IsTurn, Serves, is_failure}
 use Rattle.console_session.proofs.Turns.{turn_at}
 
@@ -46,9 +46,10 @@ starved_try kept ask NoPoint = refl
 starved_try kept ask NoNumbers = refl
 starved_try kept ask (IsDue due) = refl
 
-starved_found : {A : Type 0} → (kept : Kept) (o : Option A) (t : Turn) → found_under Refused kept o t ≡ starved kept
-starved_found kept None t = refl
-starved_found kept (Some x) t = refl
+starved_found : {A : Type 0} → (some : Bool) (kept : Kept) (o : Option A) (t : Turn) → found_under some Refused kept o t ≡ starved kept
+starved_found some kept None t = refl
+starved_found true kept (Some x) t = refl
+starved_found false kept (Some x) t = refl
 
 lost_back : (kept : Kept) (missing : Answer) (what : JournalRecord) (left : Cycled → Kept) (due : Due) → gone_back_under Unheard kept missing what left due ≡ lost kept
 lost_back kept missing what left (Repeats report) = refl
@@ -62,17 +63,18 @@ lost_try kept ask NoPoint = refl
 lost_try kept ask NoNumbers = refl
 lost_try kept ask (IsDue due) = refl
 
-lost_found : {A : Type 0} → (kept : Kept) (o : Option A) (t : Turn) → found_under Unheard kept o t ≡ lost kept
-lost_found kept None t = refl
-lost_found kept (Some x) t = refl
+lost_found : {A : Type 0} → (some : Bool) (kept : Kept) (o : Option A) (t : Turn) → found_under some Unheard kept o t ≡ lost kept
+lost_found some kept None t = refl
+lost_found true kept (Some x) t = refl
+lost_found false kept (Some x) t = refl
 
 starved_route : (at : ℕ) (kept : Kept) (t : Taken) → routed_under Refused at kept t ≡ starved kept
 starved_route at kept route.Status = refl
 starved_route at kept (route.Timeline start) = refl
 starved_route at kept (route.Box user name) = refl
-starved_route at kept (route.Body number) = starved_found kept (body_found kept.timeline number) _
+starved_route at kept (route.Body number) = starved_found (is_text_recorded kept.timeline number) kept (body_found kept.timeline number) _
 starved_route at kept route.Conf = refl
-starved_route at kept (route.Plan point) = starved_found kept (position kept.timeline point) _
+starved_route at kept (route.Plan point) = starved_found true kept (position kept.timeline point) _
 starved_route at kept (route.Act act) = elim (nat_lt kept.next 4194304) as (λ b. (if b then starved kept else starved kept) ≡ starved kept) [ true ↦ refl | false ↦ refl ]
 starved_route at kept (route.Cycle ask) = starved_back kept (pointless ask.point) (Cycle kept.next at ask) (after_cycle kept ask) (cycle_due kept at ask)
 starved_route at kept (route.Try ask) = starved_try kept ask (due_anew kept at ask)
@@ -85,9 +87,9 @@ lost_route : (at : ℕ) (kept : Kept) (t : Taken) → routed_under Unheard at ke
 lost_route at kept route.Status = refl
 lost_route at kept (route.Timeline start) = refl
 lost_route at kept (route.Box user name) = refl
-lost_route at kept (route.Body number) = lost_found kept (body_found kept.timeline number) _
+lost_route at kept (route.Body number) = lost_found (is_text_recorded kept.timeline number) kept (body_found kept.timeline number) _
 lost_route at kept route.Conf = refl
-lost_route at kept (route.Plan point) = lost_found kept (position kept.timeline point) _
+lost_route at kept (route.Plan point) = lost_found true kept (position kept.timeline point) _
 lost_route at kept (route.Act act) = elim (nat_lt kept.next 4194304) as (λ b. (if b then lost kept else lost kept) ≡ lost kept) [ true ↦ refl | false ↦ refl ]
 lost_route at kept (route.Cycle ask) = lost_back kept (pointless ask.point) (Cycle kept.next at ask) (after_cycle kept ask) (cycle_due kept at ask)
 lost_route at kept (route.Try ask) = lost_try kept ask (due_anew kept at ask)
@@ -137,9 +139,9 @@ ends_read UnreadRefused kept t e = refl
 ends_read UnreadUnheard kept t e = refl
 ends_read (Misread said left) kept t e = e
 
-ends_found : {A : Type 0} → (h : Hindrance) (kept : Kept) (o : Option A) (t : Turn) → EndsSo t → EndsSo (found_under h kept o t)
-ends_found h kept None t e = ends_told h kept t e
-ends_found h kept (Some x) t e = ends_read h kept t e
+ends_found : {A : Type 0} → (some : Bool) (h : Hindrance) (kept : Kept) (o : Option A) (t : Turn) → EndsSo t → EndsSo (found_under some h kept o t)
+ends_found some h kept None t e = ends_told h kept t e
+ends_found some h kept (Some x) t e = ends_read (where_read some h) kept t e
 
 ends_sealed : (h : Hindrance) (kept : Kept) (t u : Turn) → EndsSo t → EndsSo u → EndsSo (sealed_under h kept t u)
 ends_sealed Clear kept t u e f = e
@@ -199,9 +201,9 @@ ends_routed : (h : Hindrance) (at : ℕ) (kept : Kept) (t : Taken) → EndsSo (r
 ends_routed h at kept route.Status = ends_told h kept _ refl
 ends_routed h at kept (route.Timeline start) = ends_told h kept _ refl
 ends_routed h at kept (route.Box user name) = ends_told h kept _ refl
-ends_routed h at kept (route.Body number) = ends_found h kept (body_found kept.timeline number) _ refl
+ends_routed h at kept (route.Body number) = ends_found (is_text_recorded kept.timeline number) h kept (body_found kept.timeline number) _ refl
 ends_routed h at kept route.Conf = ends_told h kept _ refl
-ends_routed h at kept (route.Plan point) = ends_found h kept (position kept.timeline point) _ refl
+ends_routed h at kept (route.Plan point) = ends_found true h kept (position kept.timeline point) _ refl
 ends_routed h at kept (route.Act act) = ends_acted h at kept act
 ends_routed h at kept (route.Cycle ask) = ends_back h kept (pointless ask.point) (Cycle kept.next at ask) (after_cycle kept ask) (cycle_due kept at ask)
 ends_routed h at kept (route.Try ask) = ends_tried h kept ask (due_anew kept at ask)

@@ -260,9 +260,9 @@ module _ {D : Type 0} (told : D → DiskTold) where
 
   -- the same of a cycle that is due, whose texts are read
   tried_read : Still told → (at : ℕ) (ask : CycleAsk) (due : Cycled) (old new : Lasting D) (r : Reply) → IsStill told old new → due_anew old.kept at ask ≡ IsDue due
-      → TellsRead told (answer 200 (report_data old.kept.house due.report)) old new r → Serves told at (Ok (Whole (route.Try ask))) old new r
+      → TellsRead told true (answer 200 (report_data old.kept.house due.report)) old new r → Serves told at (Ok (Whole (route.Try ask))) old new r
   tried_read still at ask due old new r same e says =
-      let u = read_turn told still (answer 200 (report_data old.kept.house due.report)) old new r same says in
+      let u = read_turn told still true (answer 200 (report_data old.kept.house due.report)) old new r same says in
       record { hindrance = u.0; turn_is = turn_at told _ _ old new r (ap (λ (d : Due). tried_under u.0 old.kept ask d) e) u.1; still = λ x. same }
 
   pub try_told : Still told → (at : ℕ) (ask : CycleAsk) (report : Report) (old new : Lasting D) (r : Reply) → IsStill told old new → Tries old.kept at ask (HoldsTexts told old) report → ReadsWell told old new
@@ -282,7 +282,7 @@ module _ {D : Type 0} (told : D → DiskTold) where
       (subst (λ (n : ℕ). Tells (answer 507 (numbers_data n)) Closes r) none.1 says)
   try_not_told still at ask old new cycle_fault.Disk r same none says =
       let due = rewinds_is (due_anew old.kept at ask) none.0 in
-      tried_read still at ask due.0 old new r same due.1 (inr (none.1, says))
+      tried_read still at ask due.0 old new r same due.1 (inr (refl, none.1, says))
   try_not_told still at ask old new cycle_fault.NoMemory r same none says =
       let due = rewinds_is (due_anew old.kept at ask) none.0 in
       tried_read still at ask due.0 old new r same due.1 (inl (answer 200 (report_data old.kept.house due.0.report), λ h. refl, none.1, inr says))

@@ -1,5 +1,5 @@
 -- Replies as turns.
-use Rattle.std.proofs.Common.{◌≡◌, ℕ, true, false, List, [], ◌∷◌, Option, Some, None, refl, sym, ap, ◌∙◌, subst, arith, inl, inr, true≢false}
+use Rattle.std.proofs.Common.{◌≡◌, ℕ, Bool, true, false, List, [], ◌∷◌, Option, Some, None, refl, sym, ap, ◌∙◌, subst, arith, inl, inr, true≢false}
 use Rattle.std.specs.Prelude.{◌⊎◌, IsSome, length, nat_lt, option_map, unwrap_or, Result, Ok, Err}
 use Rattle.undo_outside.specs.Disk.{DiskTold, IsHonest, ReadFailed, WriteStarved}
 use Rattle.seal_log.specs.Causes.{Fed, SealWants, Starves as FindsNone}
@@ -40,7 +40,7 @@ use Rattle.console_session.specs.declared.reply.After.TheVariants.{Closes, Fails
 use Rattle.console_session.specs.declared.reply.Reply.{Reply}
 use Rattle.console_session.specs.Answers.{Answer, answer, answer_text, plan_answer, planned, pointless, refused, told_plainly}
 use Rattle.console_session.specs.Turn.{Turn, done, failed, kept_as_it_is, tells, upgrade_done, upgraded_once}
-use Rattle.console_session.specs.Hindrance.{Hindrance, Clear, Refused, Unheard, Unanswered, Unsealed, Untold, Unwritten, UnwrittenUnheard, Unread, UnreadRefused, UnreadUnheard, Misread, behind_a_read, behind_a_write, found_under, hindered, lost, read_under, rewound_under, routed_under, sealed_under, starved, told_under, unanswered, unread, upgraded_under}
+use Rattle.console_session.specs.Hindrance.{Hindrance, Clear, Refused, Unheard, Unanswered, Unsealed, Untold, Unwritten, UnwrittenUnheard, Unread, UnreadRefused, UnreadUnheard, Misread, behind_a_read, behind_a_write, found_under, hindered, lost, misread, read_under, rewound_under, routed_under, sealed_under, starved, told_under, unanswered, unread, upgraded_under, where_read}
 use Rattle.console_session.specs.Hearing.{IsTurn, Serves, Starves, Tells, TellsCycleFault, TellsFault, TellsFound, TellsOnly, TellsRead, TellsReadFault, TellsSealFault, reply}
 use Rattle.console_session.proofs.Deciding.{IsSame, text_decided}
 use Rattle.console_session.proofs.Numbering.{number_left, act_with, act_without, record_is_not, act_seals, less_is}
@@ -126,14 +126,23 @@ module _ {D : Type 0} (told : D → DiskTold) where
   told_turn still a after old new r same (inr (inl e)) = (Refused, same_turn still (answer_text (refused NoMemory)) Closes old new r same e)
   told_turn still a after old new r same (inr (inr e)) = (Unheard, same_turn still [] Closes old new r same e)
 
-  -- an answer that is made of texts: the one that is due, or another over texts that are not those that were stored
+  -- another answer than the one that is due, over texts that are not those that were stored
+  other_turn : Still → (due a : Answer) (old new : Lasting D) (r : Reply) → IsQuiet old new → (HoldsTexts told old → a ≡ due) → r ≡ reply (answer_text a) Closes
+      → (answer_text a ≡ answer_text due → ⊥) → IsTurn told (misread (answer_text a) old.kept (tells due Closes old.kept)) old new r
+  other_turn still due a old new r same holds e other =
+      record { reply_is = e; kept = same.still.kept; seals = still old new same.still; read = reads_wrong old new same.well (λ h. other (ap answer_text (holds h))); starved = none_starved old new same.still.reads.fed }
+
+  -- an answer that is made of texts: the one that is due, or another
   answer_turn : Still → (due a : Answer) (old new : Lasting D) (r : Reply) → IsQuiet old new → (HoldsTexts told old → a ≡ due) → r ≡ reply (answer_text a) Closes
       → IsSame (answer_text a) (answer_text due) → Under (λ h. read_under h old.kept (tells due Closes old.kept)) old new r
   answer_turn still due a old new r same holds e (inl is) = (Clear, same_turn still (answer_text due) Closes old new r same (e ∙ ap (λ (t : List ℕ). reply t Closes) is))
-  answer_turn still due a old new r same holds e (inr other) = (
-    Misread (answer_text a) old.kept,
-    record { reply_is = e; kept = same.still.kept; seals = still old new same.still; read = reads_wrong old new same.well (λ h. other (ap answer_text (holds h))); starved = none_starved old new same.still.reads.fed },
-  )
+  answer_turn still due a old new r same holds e (inr other) = (Misread (answer_text a) old.kept, other_turn still due a old new r same holds e other)
+
+  -- the same of texts in memory
+  memory_turn : Still → (due a : Answer) (old new : Lasting D) (r : Reply) → IsQuiet old new → (HoldsTexts told old → a ≡ due) → r ≡ reply (answer_text a) Closes
+      → IsSame (answer_text a) (answer_text due) → Under (λ h. read_under (where_read false h) old.kept (tells due Closes old.kept)) old new r
+  memory_turn still due a old new r same holds e (inl is) = (Clear, same_turn still (answer_text due) Closes old new r same (e ∙ ap (λ (t : List ℕ). reply t Closes) is))
+  memory_turn still due a old new r same holds e (inr other) = (Misread (answer_text a) old.kept, other_turn still due a old new r same holds e other)
 
   pub unread_turn : Still → (old new : Lasting D) (r : Reply) → IsStill told old new → ReadFailed (told old.disk) (told new.disk) → r ≡ reply (unread old.kept).said Closes
       → IsTurn told (unread old.kept) old new r
@@ -149,22 +158,28 @@ module _ {D : Type 0} (told : D → DiskTold) where
   lost_unread still old new r same failed e = record { reply_is = e; kept = same.kept; seals = still old new same; read = reads_ill old new failed; starved = none_starved old new same.reads.fed }
 
   -- an answer that is made of texts, or a text that could not be read
-  pub read_turn : Still → (due : Answer) (old new : Lasting D) (r : Reply) → IsStill told old new → TellsRead told due old new r
-      → Under (λ h. read_under h old.kept (tells due Closes old.kept)) old new r
-  read_turn still due old new r same (inl (a, holds, well, inl e)) =
+  pub read_turn : Still → (some : Bool) (due : Answer) (old new : Lasting D) (r : Reply) → IsStill told old new → TellsRead told some due old new r
+      → Under (λ h. read_under (where_read some h) old.kept (tells due Closes old.kept)) old new r
+  read_turn still true due old new r same (inl (a, holds, well, inl e)) =
       answer_turn still due a old new r (record { still = same; well = well }) holds e (text_decided (answer_text a) (answer_text due))
-  read_turn still due old new r same (inl (a, holds, well, inr (inl e))) =
+  read_turn still true due old new r same (inl (a, holds, well, inr (inl e))) =
       (Refused, same_turn still (answer_text (refused NoMemory)) Closes old new r (record { still = same; well = well }) e)
-  read_turn still due old new r same (inl (a, holds, well, inr (inr e))) = (Unheard, same_turn still [] Closes old new r (record { still = same; well = well }) e)
-  read_turn still due old new r same (inr (failed, inl e)) = (Unread, unread_turn still old new r same failed e)
-  read_turn still due old new r same (inr (failed, inr (inl e))) = (UnreadRefused, starved_unread still old new r same failed e)
-  read_turn still due old new r same (inr (failed, inr (inr e))) = (UnreadUnheard, lost_unread still old new r same failed e)
+  read_turn still true due old new r same (inl (a, holds, well, inr (inr e))) = (Unheard, same_turn still [] Closes old new r (record { still = same; well = well }) e)
+  read_turn still true due old new r same (inr (is, failed, inl e)) = (Unread, unread_turn still old new r same failed e)
+  read_turn still true due old new r same (inr (is, failed, inr (inl e))) = (UnreadRefused, starved_unread still old new r same failed e)
+  read_turn still true due old new r same (inr (is, failed, inr (inr e))) = (UnreadUnheard, lost_unread still old new r same failed e)
+  read_turn still false due old new r same (inl (a, holds, well, inl e)) =
+      memory_turn still due a old new r (record { still = same; well = well }) holds e (text_decided (answer_text a) (answer_text due))
+  read_turn still false due old new r same (inl (a, holds, well, inr (inl e))) =
+      (Refused, same_turn still (answer_text (refused NoMemory)) Closes old new r (record { still = same; well = well }) e)
+  read_turn still false due old new r same (inl (a, holds, well, inr (inr e))) = (Unheard, same_turn still [] Closes old new r (record { still = same; well = well }) e)
+  read_turn still false due old new r same (inr (wrong, failed, says)) = absurd (true≢false (sym wrong))
 
   -- texts are read where there is what they are read for
-  pub found_turn : Still → {A : Type 0} → (o : Option A) (due : Answer) (old new : Lasting D) (r : Reply) → IsStill told old new → TellsFound told o due old new r
-      → Under (λ h. found_under h old.kept o (tells due Closes old.kept)) old new r
-  found_turn still None due old new r same says = told_turn still due Closes old new r (record { still = same; well = says.0 }) says.1
-  found_turn still (Some x) due old new r same says = read_turn still due old new r same says
+  pub found_turn : Still → {A : Type 0} → (some : Bool) (o : Option A) (due : Answer) (old new : Lasting D) (r : Reply) → IsStill told old new → TellsFound told some o due old new r
+      → Under (λ h. found_under some h old.kept o (tells due Closes old.kept)) old new r
+  found_turn still some None due old new r same says = told_turn still due Closes old new r (record { still = same; well = says.0 }) says.1
+  found_turn still some (Some x) due old new r same says = read_turn still some due old new r same says
 
   pub under_as : (f g : Hindrance → Turn) (old new : Lasting D) (r : Reply) → ((h : Hindrance) → f h ≡ g h) → Under g old new r → Under f old new r
   under_as f g old new r same u = (u.0, turn_at _ _ old new r (same u.0) u.1)
@@ -183,11 +198,11 @@ module _ {D : Type 0} (told : D → DiskTold) where
       subst (λ (v : Taken). Serves told at (Ok (Whole v)) old old r) (sym e) (serves_told still at (Ok (Whole s)) a after old old r (as_it_was truth old old refl) same says)
 
   -- the same of a route that reads texts
-  pub serves_found : Still → {A : Type 0} → (at : ℕ) (t s : Taken) (o : Option A) (due : Answer) (old new : Lasting D) (r : Reply) → t ≡ s → IsStill told old new
-      → ((h : Hindrance) → routed_under h at old.kept s ≡ found_under h old.kept o (tells due Closes old.kept)) → TellsFound told o due old new r
+  pub serves_found : Still → {A : Type 0} → (at : ℕ) (t s : Taken) (some : Bool) (o : Option A) (due : Answer) (old new : Lasting D) (r : Reply) → t ≡ s → IsStill told old new
+      → ((h : Hindrance) → routed_under h at old.kept s ≡ found_under some h old.kept o (tells due Closes old.kept)) → TellsFound told some o due old new r
       → Serves told at (Ok (Whole t)) old new r
-  serves_found still at t s o due old new r e unchanged same says =
-      let u = found_turn still o due old new r unchanged says in
+  serves_found still at t s some o due old new r e unchanged same says =
+      let u = found_turn still some o due old new r unchanged says in
       subst (λ (v : Taken). Serves told at (Ok (Whole v)) old new r) (sym e)
       (record { hindrance = u.0; turn_is = turn_at _ _ old new r (same u.0) u.1; still = λ e. unchanged })
 
@@ -355,11 +370,11 @@ module _ {D : Type 0} (told : D → DiskTold) where
   -- ---- plans
 
   abbrev PlanFound : Kept → ℕ → Lasting D → Lasting D → Reply → Option ℕ → Type 0
-  PlanFound kept point old new r place = TellsFound told place (planned point (option_map (plan_at kept) place)) old new r
+  PlanFound kept point old new r place = TellsFound told true place (planned point (option_map (plan_at kept) place)) old new r
 
   -- a plan that is made is told
   pub plan_told : (point : ℕ) (text : List ℕ) (old new : Lasting D) (r : Reply) → Plans old.kept point (HoldsTexts told old) text → ReadsWell told old new → Tells (told_plainly text) Closes r
-      → TellsFound told (position old.kept.timeline point) (plan_answer old.kept point) old new r
+      → TellsFound told true (position old.kept.timeline point) (plan_answer old.kept point) old new r
   plan_told point text old new r plans well says =
       subst (λ (o : Option ℕ). PlanFound old.kept point old new r o) (sym plans.1) (inl (told_plainly text, λ h. ap told_plainly (plans.2 h), well, says))
 
@@ -369,13 +384,13 @@ module _ {D : Type 0} (told : D → DiskTold) where
 
   -- why none is made is told
   pub plan_not_told : (point : ℕ) (f : CycleFault) (old new : Lasting D) (r : Reply) → PlansNone old.kept point (told old.disk) (told new.disk) f → TellsCycleFault false f r
-      → TellsFound told (position old.kept.timeline point) (plan_answer old.kept point) old new r
+      → TellsFound told true (position old.kept.timeline point) (plan_answer old.kept point) old new r
   plan_not_told point (cycle_fault.Point given) old new r none says =
       subst (λ (o : Option ℕ). PlanFound old.kept point old new r o) (sym none.0) (none.2, subst (λ (n : ℕ). Tells (pointless n) Closes r) none.1 says)
   plan_not_told point (cycle_fault.Numbers next) old new r none says = absurd none
   plan_not_told point cycle_fault.Disk old new r none says =
       let there = there_is (position old.kept.timeline point) none.0 in
-      subst (λ (o : Option ℕ). PlanFound old.kept point old new r o) (sym there.1) (inr (none.1, says))
+      subst (λ (o : Option ℕ). PlanFound old.kept point old new r o) (sym there.1) (inr (refl, none.1, says))
   plan_not_told point cycle_fault.NoMemory old new r none says =
       let there = there_is (position old.kept.timeline point) none.0 in
       subst (λ (o : Option ℕ). PlanFound old.kept point old new r o) (sym there.1) (inl (told_plainly (plan_at old.kept there.0), λ h. refl, none.1, inr says))
@@ -386,12 +401,12 @@ module _ {D : Type 0} (told : D → DiskTold) where
   -- a text that was read is told
   pub text_told : (body : Body) (read : Option (List ℕ)) (old new : Lasting D) (r : Reply) → (HoldsTexts told old → read ≡ text_of old.kept.timeline body) → ReadsWell told old new
       → Tells (answer 200 (body_data (unwrap_or read []) body.rev)) Closes r → (text : List ℕ) → text_of old.kept.timeline body ≡ Some text
-      → TellsRead told (answer 200 (body_data text body.rev)) old new r
-  text_told body read old new r holds well says text is =
+      → (some : Bool) → TellsRead told some (answer 200 (body_data text body.rev)) old new r
+  text_told body read old new r holds well says text is some =
       inl (answer 200 (body_data (unwrap_or read []) body.rev), λ h. ap (λ (o : Option (List ℕ)). answer 200 (body_data (unwrap_or o []) body.rev)) (holds h ∙ is), well, says)
 
   -- why it was not read is told
-  pub text_not_told : (f : ReadFault) (due : Answer) (old new : Lasting D) (r : Reply) → (f ≡ read_fault.Disk → ReadFailed (told old.disk) (told new.disk)) → (f ≡ read_fault.NoMemory → ReadsWell told old new)
-      → TellsReadFault f r → TellsRead told due old new r
-  text_not_told read_fault.Disk due old new r failed well says = inr (failed refl, says)
-  text_not_told read_fault.NoMemory due old new r failed well says = inl (due, λ h. refl, well refl, inr says)
+  pub text_not_told : (f : ReadFault) (some : Bool) (due : Answer) (old new : Lasting D) (r : Reply) → (f ≡ read_fault.Disk → some ≡ true) → (f ≡ read_fault.Disk → ReadFailed (told old.disk) (told new.disk))
+      → (f ≡ read_fault.NoMemory → ReadsWell told old new) → TellsReadFault f r → TellsRead told some due old new r
+  text_not_told read_fault.Disk some due old new r is failed well says = inr (is refl, failed refl, says)
+  text_not_told read_fault.NoMemory some due old new r is failed well says = inl (due, λ h. refl, well refl, inr says)

@@ -20,10 +20,10 @@ use Rattle.console_http.specs.Routes.{Choice, route_of}
 use Rattle.console_session.specs.declared.reply.After.TheVariants.{Closes, Fails, Rewinds as IsRewound, Stops, Upgrades, Waits}
 use Rattle.console_session.specs.declared.reply.Reply.{Reply}
 use Rattle.console_replies.specs.Bodies.{upgraded_data}
-use Rattle.console_session.specs.Answers.{Answer, answer, body_found, pointless, uncycled}
+use Rattle.console_session.specs.Answers.{Answer, answer, body_found, is_text_recorded, pointless, uncycled}
 use Rattle.console_session.specs.Hearing.{Hears, AreServed, IsUnfed}
 use Rattle.console_session.specs.Turn.{Turn, asked_of, chosen, done, failed, numberless, tells, upgrade_done}
-use Rattle.console_session.specs.Hindrance.{Hindrance, Clear, Refused, Unheard, Unanswered, Unsealed, Untold, Unwritten, UnwrittenUnheard, Unread, UnreadRefused, UnreadUnheard, Misread, acted_under, found_under, gone_back_under, hindered, read_under, rewound_under, routed_under, sealed_under, told_under, tried_under, upgraded_under}
+use Rattle.console_session.specs.Hindrance.{Hindrance, Clear, Refused, Unheard, Unanswered, Unsealed, Untold, Unwritten, UnwrittenUnheard, Unread, UnreadRefused, UnreadUnheard, Misread, acted_under, found_under, gone_back_under, hindered, read_under, rewound_under, routed_under, sealed_under, told_under, tried_under, upgraded_under, where_read}
 
 -- what follows is not that more bytes are waited for
 abbrev Ends : Turn → Type 0
@@ -100,9 +100,9 @@ rewound_ends UnreadRefused kept t u done_ends failed_ends = closing
 rewound_ends UnreadUnheard kept t u done_ends failed_ends = closing
 rewound_ends (Misread said left) kept t u done_ends failed_ends = done_ends
 
-found_ends : {A : Type 0} (h : Hindrance) (kept : Kept) (o : Option A) (t : Turn) → Ends t → Ends (found_under h kept o t)
-found_ends h kept None t ends = told_ends h kept t ends
-found_ends h kept (Some x) t ends = read_ends h kept t ends
+found_ends : {A : Type 0} (some : Bool) (h : Hindrance) (kept : Kept) (o : Option A) (t : Turn) → Ends t → Ends (found_under some h kept o t)
+found_ends some h kept None t ends = told_ends h kept t ends
+found_ends some h kept (Some x) t ends = read_ends (where_read some h) kept t ends
 
 act_ends : (h : Hindrance) (at : ℕ) (kept : Kept) (act : Act) → Ends (acted_under h at kept act)
 act_ends h at kept act = by_left (nat_lt kept.next 4194304)
@@ -134,9 +134,9 @@ route_ends : (h : Hindrance) (at : ℕ) (kept : Kept) (r : Route) → Ends (rout
 route_ends h at kept route.Status = told_ends h kept _ closing
 route_ends h at kept (route.Timeline start) = told_ends h kept _ closing
 route_ends h at kept (route.Box user name) = told_ends h kept _ closing
-route_ends h at kept (route.Body number) = found_ends h kept (body_found kept.timeline number) _ closing
+route_ends h at kept (route.Body number) = found_ends (is_text_recorded kept.timeline number) h kept (body_found kept.timeline number) _ closing
 route_ends h at kept route.Conf = told_ends h kept _ closing
-route_ends h at kept (route.Plan point) = found_ends h kept (position kept.timeline point) _ closing
+route_ends h at kept (route.Plan point) = found_ends true h kept (position kept.timeline point) _ closing
 route_ends h at kept (route.Act act) = act_ends h at kept act
 route_ends h at kept (route.Cycle ask) = back_ends h kept (pointless ask.point) (Cycle kept.next at ask) (after_cycle kept ask) (cycle_due kept at ask)
 route_ends h at kept (route.Try ask) = try_ends h kept ask (due_anew kept at ask)

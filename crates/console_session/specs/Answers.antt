@@ -1,5 +1,6 @@
 -- What the console answers, over what the desk keeps.
-use Rattle.std.specs.Prelude.{ℕ, List, codes, Option, None, Some, option_and_then, option_map, unwrap_or}
+use Rattle.std.specs.Prelude.{ℕ, Bool, false, List, codes, Option, None, Some, option_and_then, option_map, unwrap_or}
+use Rattle.std.specs.Option.{option_map_or}
 use Rattle.serde_json.specs.Data.{Data}
 use Rattle.serde_json.specs.Written.{compact_text}
 use Rattle.undo_base.specs.declared.keys.User.{User}
@@ -11,7 +12,8 @@ use Rattle.verb_core.specs.Items.{text_in}
 use Rattle.mail_desk.specs.declared.counts.Counts.{Counts as DeskCounts}
 use Rattle.mail_desk.specs.Counting.{counts_of, page}
 use Rattle.store_kept.specs.Kept.{store_of, Kept}
-use Rattle.mail_desk.specs.Timeline.{item_of}
+use Rattle.mail_desk.specs.Timeline.{item_of, rev_of}
+use Rattle.desk_journal.specs.Stored.{is_recorded}
 use Rattle.time_desk.specs.Planning.{plan_of}
 use Rattle.console_http.specs.declared.request.HttpRefused.{HttpRefused}
 use Rattle.console_http.specs.declared.request.HttpRefused.TheVariants as why
@@ -93,6 +95,10 @@ body_told i = option_map (λ (text : List ℕ). body_data text i.rev) (text_in i
 -- the same of the item of a number, where there is such an item with a text
 abbrev pub body_found : List Item → ℕ → Option Data
 body_found timeline number = option_and_then body_told (item_of timeline number)
+
+-- whether a record has that text, which is read there then; a notice's is in memory
+abbrev pub is_text_recorded : List Item → ℕ → Bool
+is_text_recorded timeline number = option_map_or (λ (rev : ℕ). is_recorded timeline (body_at number rev)) (rev_of timeline number) false
 
 abbrev pub body_answer : Kept → ℕ → Answer
 body_answer kept number = found (body_found kept.timeline number)

@@ -106,15 +106,17 @@ is_failure Rewinds = false
 is_failure Upgrades = false
 
 module _ {D : Type 0} (told : D → DiskTold) where
-  -- What is told of texts that were read, each of them: the answer that is due where the disk holds them. Or a read failed, and that is told. Or want of memory.
-  abbrev pub TellsRead : Answer → Lasting D → Lasting D → Reply → Type 0
-  TellsRead due old new r =
-      ((a : Answer) × (HoldsTexts told old → a ≡ due) × ReadsWell told old new × Tells a Closes r) ⊎ (ReadFailed (told old.disk) (told new.disk) × TellsUnread r)
+  -- What is told of texts that were read, each of them: the answer that is due where the disk holds them. Or, where some may be to be read, a read failed, and
+  -- that is told. Or want of memory.
+  abbrev pub TellsRead : Bool → Answer → Lasting D → Lasting D → Reply → Type 0
+  TellsRead some due old new r =
+      ((a : Answer) × (HoldsTexts told old → a ≡ due) × ReadsWell told old new × Tells a Closes r)
+      ⊎ ((some ≡ true) × ReadFailed (told old.disk) (told new.disk) × TellsUnread r)
 
   -- the same where there is what texts are read for; else the answer is told, and no read fails
-  abbrev pub TellsFound : {A : Type 0} → Option A → Answer → Lasting D → Lasting D → Reply → Type 0
-  TellsFound None due old new r = ReadsWell told old new × Tells due Closes r
-  TellsFound (Some x) due old new r = TellsRead due old new r
+  abbrev pub TellsFound : {A : Type 0} → Bool → Option A → Answer → Lasting D → Lasting D → Reply → Type 0
+  TellsFound some None due old new r = ReadsWell told old new × Tells due Closes r
+  TellsFound some (Some x) due old new r = TellsRead some due old new r
 
   -- a turn was said and sealed, its texts were read, and just so many of its writes found no memory
   pub record IsTurn (t : Turn) (old new : Lasting D) (r : Reply) : Type 0 where

@@ -1,5 +1,5 @@
 -- How a turn may go otherwise.
-use Rattle.std.specs.Prelude.{ℕ, List, [], nat_lt, Option, None, Some, Result, Ok, Err, if◌then◌else◌}
+use Rattle.std.specs.Prelude.{ℕ, Bool, true, false, List, [], nat_lt, Option, None, Some, Result, Ok, Err, if◌then◌else◌}
 use Rattle.verb_core.specs.declared.item.Act.{Act}
 use Rattle.verb_bytes.specs.declared.journal.CycleAsk.{CycleAsk}
 use Rattle.verb_bytes.specs.declared.journal.JournalRecord.{JournalRecord}
@@ -20,7 +20,7 @@ use Rattle.console_http.specs.declared.request.Route.TheVariants as route
 use Rattle.console_replies.specs.declared.bodies.ErrorWord.TheVariants as word
 use Rattle.console_replies.specs.Bodies.{error_data, upgraded_data}
 use Rattle.console_session.specs.declared.reply.After.TheVariants.{Closes}
-use Rattle.console_session.specs.Answers.{Answer, answer, body_found, pointless, refused, uncycled}
+use Rattle.console_session.specs.Answers.{Answer, answer, body_found, is_text_recorded, pointless, refused, uncycled}
 use Rattle.console_session.specs.Turn.{Turn, waits, tells, done, failed, kept_as_it_is, numberless, reported, rewound, routed, upgrade_done}
 
 -- How a turn may go otherwise.
@@ -138,10 +138,26 @@ rewound_under UnreadRefused kept done unsealed = behind_a_read (starved kept)
 rewound_under UnreadUnheard kept done unsealed = behind_a_read (lost kept)
 rewound_under (Misread said left) kept done unsealed = misread said left done
 
--- a turn that reads texts where there is what it asks for
-abbrev pub found_under : {A : Type 0} → Hindrance → Kept → Option A → Turn → Turn
-found_under h kept None t = told_under h kept t
-found_under h kept (Some x) t = read_under h kept t
+-- a hindrance, where some text may be to be read; where none is, no read fails
+abbrev pub where_read : Bool → Hindrance → Hindrance
+where_read true h = h
+where_read false Clear = Clear
+where_read false Refused = Refused
+where_read false Unheard = Unheard
+where_read false Unanswered = Unanswered
+where_read false Unsealed = Unsealed
+where_read false Untold = Untold
+where_read false Unwritten = Unwritten
+where_read false UnwrittenUnheard = UnwrittenUnheard
+where_read false Unread = Clear
+where_read false UnreadRefused = Clear
+where_read false UnreadUnheard = Clear
+where_read false (Misread said left) = Misread said left
+
+-- a turn that tells what is made of texts, where there is what it asks for, and where some may be to be read
+abbrev pub found_under : {A : Type 0} → Bool → Hindrance → Kept → Option A → Turn → Turn
+found_under some h kept None t = told_under h kept t
+found_under some h kept (Some x) t = read_under (where_read some h) kept t
 
 -- what becomes of an act; where no number is left nothing is to be sealed
 abbrev pub acted_under : Hindrance → ℕ → Kept → Act → Turn
@@ -177,9 +193,9 @@ abbrev pub routed_under : Hindrance → ℕ → Kept → Route → Turn
 routed_under h at kept route.Status = told_under h kept (routed at kept route.Status)
 routed_under h at kept (route.Timeline start) = told_under h kept (routed at kept (route.Timeline start))
 routed_under h at kept (route.Box user name) = told_under h kept (routed at kept (route.Box user name))
-routed_under h at kept (route.Body number) = found_under h kept (body_found kept.timeline number) (routed at kept (route.Body number))
+routed_under h at kept (route.Body number) = found_under (is_text_recorded kept.timeline number) h kept (body_found kept.timeline number) (routed at kept (route.Body number))
 routed_under h at kept route.Conf = told_under h kept (routed at kept route.Conf)
-routed_under h at kept (route.Plan point) = found_under h kept (position kept.timeline point) (routed at kept (route.Plan point))
+routed_under h at kept (route.Plan point) = found_under true h kept (position kept.timeline point) (routed at kept (route.Plan point))
 routed_under h at kept (route.Act act) = acted_under h at kept act
 routed_under h at kept (route.Cycle ask) = cycled_under h at kept ask (cycle_due kept at ask)
 routed_under h at kept (route.Try ask) = tried_under h kept ask (due_anew kept at ask)
