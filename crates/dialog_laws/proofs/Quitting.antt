@@ -108,9 +108,9 @@ holds_under : {D : Type 0} → (P : Turn D → Type 0) (h : Hindrance) (at : ℕ
 holds_under P Clear at kept told f is none quiet each = each (service at kept) (service_sound at kept)
 holds_under P IsToldWant at kept told f is none quiet each = is
 holds_under P Textless at kept told f is none quiet each = each (without_texts (service at kept)) (service_sound at kept)
-holds_under P Unread at kept told f is none quiet each = each (unread (service at kept)) (service_sound at kept)
-holds_under P UnreadRefused at kept told f is none quiet each = each (unread_unsaid (service at kept)) (service_sound at kept)
-holds_under P UnreadUnheard at kept told f is none quiet each = quiet (f (stopped (unread (service at kept))))
+holds_under P Unread at kept told f is none quiet each = each (unread kept (service at kept)) (service_sound at kept)
+holds_under P UnreadRefused at kept told f is none quiet each = each (unread_unsaid kept (service at kept)) (service_sound at kept)
+holds_under P UnreadUnheard at kept told f is none quiet each = quiet (f (stopped (unread kept (service at kept))))
 holds_under P (Misread texts h) at kept told f is none quiet each = holds_under P h at kept (lost kept) (λ desk. f (misread texts desk)) none none quiet (λ desk sound. each (misread texts desk) sound)
 holds_under P (Misled said left) at kept told f is none quiet each = each (service at kept) (service_sound at kept)
 holds_under P Unstored at kept told f is none quiet each = each (without_items kept (service at kept)) (starves_sound at kept (service at kept))

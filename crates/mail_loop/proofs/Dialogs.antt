@@ -1,6 +1,6 @@
 -- Turns of a session, whatever it speaks: what it gives, what is asked of the desk, and the texts that are read for it.
 use Rattle.std.proofs.lemmas.List.{append-nil, append_assoc}
-use Rattle.std.proofs.Common.{◌≡◌, ◌⊎◌, ℕ, add-zero, zero-add, Bool, [], true, false, true≢false, List, ◌∷◌, ◌++◌, Option, None, Some, option_map, unwrap_or, Result, Ok, Err, refl, ap, subst, sym, ◌∙◌, inl, inr}
+use Rattle.std.proofs.Common.{◌≡◌, ◌⊎◌, ℕ, add-zero, zero-add, Bool, cond, [], true, false, true≢false, List, ◌∷◌, ◌++◌, Option, None, Some, option_map, unwrap_or, Result, Ok, Err, refl, ap, subst, sym, ◌∙◌, inl, inr}
 use Rattle.undo_base.specs.declared.keys.User.{User}
 use Rattle.seal_log.specs.declared.fault.ReadFault.{ReadFault}
 use Rattle.seal_log.specs.declared.fault.ReadFault.TheVariants.{Disk as NotRead, NoMemory as NoneForTexts}
@@ -29,7 +29,7 @@ use Rattle.mail_loop.specs.Afterwards.{gone_between}
 use Rattle.mail_loop.specs.Asked.{Asked, asked_as, unsealed_as, unwritten}
 use Rattle.mail_loop.specs.Turn.{Turn, ends, lost, reading, says, unanswered}
 use Rattle.mail_loop.specs.Session.{IsBye, Speech, Took, behind, done, followed, is_answer, is_home, is_said, pursued, pursued_as, settled, settled_as, submits, took}
-use Rattle.mail_loop.specs.Hindrance.{Hindrance, Clear, Refused as IsToldWant, Textless, Unread, UnreadRefused, UnreadUnheard, Misread, Misled, Unstored, Unheard, Unanswered, Unsealed, Untold, Unwritten, UnwrittenUnheard, Halfway, Service, halfway, last_hindrance, misread, service, stopped, under, unread, unread_unsaid, without_items, without_seals, without_texts, without_writes}
+use Rattle.mail_loop.specs.Hindrance.{Hindrance, Clear, Refused as IsToldWant, Textless, Unread, UnreadRefused, UnreadUnheard, Misread, Misled, Unstored, Unheard, Unanswered, Unsealed, Untold, Unwritten, UnwrittenUnheard, Halfway, Service, halfway, last_hindrance, misread, service, some_recorded, stopped, under, unread, unread_unsaid, without_items, without_seals, without_texts, without_writes}
 use Rattle.mail_loop.specs.Took.{Adds, AsksAs, IsAwaitedLast, IsDueNext, IsLast, IsNone, IsOnlySaid, IsTold, ReadsNone, ReadsStarved, Settles, SettlesAgain, SettlesOrAsks, Submits, Takes, TakesTexts, Wrote, asked_in, given, reads_of}
 use Rattle.mail_loop.proofs.Refusals.{due_or_starved}
 use Rattle.mail_loop.proofs.Telling.{closed, lifted, starved_too, told_last, told_nothing, told_whole, unsealed_too}
@@ -529,14 +529,14 @@ module _ {D : Type 0} (speech : Speech D) where
   -- ---- texts
 
   -- what is asked has nothing to do with texts
-  pursued_same : (desk : Service) (texts : List Body → Result (List (List ℕ)) ReadFault) (r : Reads) (kept : Kept) (d : D) (a : Asked) (out : Out) (e : D)
+  pursued_same : (desk : Service) (texts : List Body → Result (List (List ℕ)) ReadFault) (r : List Body → Reads) (kept : Kept) (d : D) (a : Asked) (out : Out) (e : D)
       → pursued_as speech (record desk { texts = texts; reads = r }) kept d a out e ≡ pursued_as speech desk kept d a out e
   pursued_same desk texts r kept d a (Say said) e = refl
   pursued_same desk texts r kept d a (Bye said) e = refl
   pursued_same desk texts r kept d a (Read bodies) e = refl
   pursued_same desk texts r kept d a (Submit ask) e = refl
 
-  submits_same : (desk : Service) (texts : List Body → Result (List (List ℕ)) ReadFault) (r : Reads) (kept : Kept) (out : Out) (d : D)
+  submits_same : (desk : Service) (texts : List Body → Result (List (List ℕ)) ReadFault) (r : List Body → Reads) (kept : Kept) (out : Out) (d : D)
       → submits speech (record desk { texts = texts; reads = r }) kept out d ≡ submits speech desk kept out d
   submits_same desk texts r kept (Say said) d = refl
   submits_same desk texts r kept (Bye said) d = refl
@@ -551,9 +551,9 @@ module _ {D : Type 0} (speech : Speech D) where
   quiet_under Clear at kept f quiet = quiet (service at kept)
   quiet_under IsToldWant at kept f quiet = refl
   quiet_under Textless at kept f quiet = quiet (without_texts (service at kept))
-  quiet_under Unread at kept f quiet = quiet (unread (service at kept))
-  quiet_under UnreadRefused at kept f quiet = quiet (unread_unsaid (service at kept))
-  quiet_under UnreadUnheard at kept f quiet = quiet (stopped (unread (service at kept)))
+  quiet_under Unread at kept f quiet = quiet (unread kept (service at kept))
+  quiet_under UnreadRefused at kept f quiet = quiet (unread_unsaid kept (service at kept))
+  quiet_under UnreadUnheard at kept f quiet = quiet (stopped (unread kept (service at kept)))
   quiet_under (Misread texts h) at kept f quiet = quiet_under h at kept (λ desk. f (misread texts desk)) (λ desk. quiet (misread texts desk))
   quiet_under (Misled said left) at kept f quiet = quiet (service at kept)
   quiet_under Unstored at kept f quiet = quiet (without_items kept (service at kept))
@@ -602,11 +602,11 @@ module _ {D : Type 0} (speech : Speech D) where
     wrong_turn none wrong Textless f quiet t =
         let desk = without_texts (service at kept) in reread S S' wrong_once (f desk) old kept' e new (quiet desk) wrong t
     wrong_turn none wrong Unread f quiet t =
-        let desk = unread (service at kept) in reread S S' wrong_once (f desk) old kept' e new (quiet desk) wrong t
+        let desk = unread kept (service at kept) in reread S S' wrong_once (f desk) old kept' e new (quiet desk) wrong t
     wrong_turn none wrong UnreadRefused f quiet t =
-        let desk = unread_unsaid (service at kept) in reread S S' wrong_once (f desk) old kept' e new (quiet desk) wrong t
+        let desk = unread_unsaid kept (service at kept) in reread S S' wrong_once (f desk) old kept' e new (quiet desk) wrong t
     wrong_turn none wrong UnreadUnheard f quiet t =
-        let desk = stopped (unread (service at kept)) in reread S S' wrong_once (unanswered (f desk)) old kept' e new (quiet desk) wrong t
+        let desk = stopped (unread kept (service at kept)) in reread S S' wrong_once (unanswered (f desk)) old kept' e new (quiet desk) wrong t
     wrong_turn none wrong (Misread texts h) f quiet t = wrong_turn none wrong h (λ desk. f (misread texts desk)) (λ desk. quiet (misread texts desk)) t
     wrong_turn none wrong (Misled said left) f quiet t = reread S S' wrong_once (f (service at kept)) old kept' e new (quiet (service at kept)) wrong t
     wrong_turn none wrong Unstored f quiet t =
@@ -638,7 +638,7 @@ module _ {D : Type 0} (speech : Speech D) where
         reread S S' none_read (unanswered (submits speech desk kept u.out u.dialog)) old kept' e new (quiet_submits desk kept u.out u.dialog) none t
 
     -- whatever texts a service has
-    given_same : (bodies : List Body) (d : D) (texts : List Body → Result (List (List ℕ)) ReadFault) (r : Reads) (desk : Service)
+    given_same : (bodies : List Body) (d : D) (texts : List Body → Result (List (List ℕ)) ReadFault) (r : List Body → Reads) (desk : Service)
         → given speech kept (texts_kept kept bodies) d (record desk { texts = texts; reads = r }) ≡ given speech kept (texts_kept kept bodies) d desk
     given_same bodies d texts r desk =
         let u = speech.heard d (Ok (texts_kept kept bodies)) in submits_same desk texts r kept u.out u.dialog
@@ -649,15 +649,18 @@ module _ {D : Type 0} (speech : Speech D) where
     right_turn bodies d none Clear t = (Clear, right_with bodies d (service at kept) none t)
     right_turn bodies d none IsToldWant t = (Unheard, reread S S' none_read (lost {D = D} kept) old kept' e new refl none t)
     right_turn bodies d none Textless t =
-        (Clear, right_with bodies d (service at kept) none (subst Before (given_same bodies d (λ _. Err NoneForTexts) none_read (service at kept)) t))
+        (Clear, right_with bodies d (service at kept) none (subst Before (given_same bodies d (λ _. Err NoneForTexts) (λ _. none_read) (service at kept)) t))
     right_turn bodies d none Unread t =
-        (Clear, right_with bodies d (service at kept) none (subst Before (given_same bodies d (λ _. Err NotRead) failed_once (service at kept)) t))
+        let desk = unread kept (service at kept) in
+        (Clear, right_with bodies d (service at kept) none (subst Before (given_same bodies d desk.texts desk.reads (service at kept)) t))
     right_turn bodies d none UnreadRefused t =
-        (Clear, right_with bodies d (service at kept) none (subst Before (given_same bodies d (λ _. Err NoneForTexts) failed_once (service at kept)) t))
+        let desk = unread_unsaid kept (service at kept) in
+        (Clear, right_with bodies d (service at kept) none (subst Before (given_same bodies d desk.texts desk.reads (service at kept)) t))
     right_turn bodies d none UnreadUnheard t =
-        (Unanswered, right_without bodies d (stopped (service at kept)) none (subst (λ (u : Turn D). Before (unanswered u)) (given_same bodies d (λ _. Err NotRead) failed_once (stopped (service at kept))) t))
+        let desk = unread kept (service at kept) in
+        (Unanswered, right_without bodies d (stopped (service at kept)) none (subst (λ (u : Turn D). Before (unanswered u)) (given_same bodies d desk.texts desk.reads (stopped (service at kept))) t))
     right_turn bodies d none (Misread texts h) t =
-        right_turn bodies d none h (subst (λ (f : Service → Turn D). Before (under h at kept f)) (λ j desk. given_same bodies d (λ _. Ok texts) wrong_once desk j) t)
+        right_turn bodies d none h (subst (λ (f : Service → Turn D). Before (under h at kept f)) (λ j desk. given_same bodies d (λ _. Ok texts) (λ _. wrong_once) desk j) t)
     right_turn bodies d none (Misled said left) t = (Clear, right_with bodies d (service at kept) none t)
     right_turn bodies d none Unstored t = (Unstored, right_with bodies d (without_items kept (service at kept)) none t)
     right_turn bodies d none Unheard t = (Unheard, reread S S' none_read (lost {D = D} kept) old kept' e new refl none t)
@@ -678,7 +681,7 @@ module _ {D : Type 0} (speech : Speech D) where
     by_texts bodies texts d none (inr wrong) h t =
         let u = speech.heard d (Ok texts) in (
           Misread texts h,
-          subst (λ (f : Service → Turn D). With (under h at kept f)) (λ j desk. reading wrong_once (sym (submits_same desk (λ _. Ok texts) wrong_once kept u.out u.dialog) j))
+          subst (λ (f : Service → Turn D). With (under h at kept f)) (λ j desk. reading wrong_once (sym (submits_same desk (λ _. Ok texts) (λ _. wrong_once) kept u.out u.dialog) j))
               (wrong_turn none wrong h (given speech kept texts d) (λ desk. quiet_submits desk kept u.out u.dialog) t),
         )
 
@@ -755,18 +758,39 @@ module _ {D : Type 0} (speech : Speech D) where
       (Textless, told_why S NoneForTexts none_read (without_texts (service at kept)) kept d e old new awaits seals t)
   textless_turn S at kept bodies d e old new awaits seals (inr t) = (Unheard, lifted S (lost {D = D} kept) old kept e new t seals)
 
-  -- the texts of a unit were not read
+  -- where a record has one of the texts, what comes of a service that could not read them
+  unread_due : (S : List JournalRecord → Counts → Type 0) (why : ReadFault) (desk : Service) (kept : Kept) (bodies : List Body) (d e : D) (old new : Reply) → some_recorded kept bodies ≡ true
+      → Takes S (let u = speech.heard d (Err why) in reading failed_once (submits speech desk kept u.out u.dialog)) old kept e new
+      → Takes S (let u = speech.heard d (cond (some_recorded kept bodies) (Err why) (Ok (texts_kept kept bodies))) in
+          reading (cond (some_recorded kept bodies) failed_once none_read) (submits speech desk kept u.out u.dialog)) old kept e new
+  unread_due S why desk kept bodies d e old new due t =
+      subst (λ (b : Bool). Takes S (let u = speech.heard d (cond b (Err why) (Ok (texts_kept kept bodies))) in reading (cond b failed_once none_read) (submits speech desk kept u.out u.dialog)) old kept e new)
+      (sym due) t
+
+  -- the same where nothing is told of it
+  ended_due : (S : List JournalRecord → Counts → Type 0) (why : ReadFault) (desk : Service) (kept : Kept) (bodies : List Body) (d e : D) (old new : Reply) → some_recorded kept bodies ≡ true
+      → Takes S (let u = speech.heard d (Err why) in unanswered (reading failed_once (submits speech desk kept u.out u.dialog))) old kept e new
+      → Takes S (let u = speech.heard d (cond (some_recorded kept bodies) (Err why) (Ok (texts_kept kept bodies))) in
+          unanswered (reading (cond (some_recorded kept bodies) failed_once none_read) (submits speech desk kept u.out u.dialog))) old kept e new
+  ended_due S why desk kept bodies d e old new due t =
+      subst (λ (b : Bool). Takes S (let u = speech.heard d (cond b (Err why) (Ok (texts_kept kept bodies))) in unanswered (reading (cond b failed_once none_read) (submits speech desk kept u.out u.dialog))) old kept e new)
+      (sym due) t
+
+  -- the texts of a unit were not read: where the disk is why, a record has one of them
   pub unread_turn : (S : List JournalRecord → Counts → Type 0) (at : ℕ) (kept : Kept) (bodies : List Body) (why : ReadFault) (d e : D) (old new : Reply) → speech.takes_texts d ≡ true
-      → S [] (read_so (reads_of why)) → ReadsNone speech why kept d old e new
+      → (why ≡ NotRead → some_recorded kept bodies ≡ true) → S [] (read_so (reads_of why)) → ReadsNone speech why kept d old e new
       → (h : Hindrance) × Takes S (under h at kept (λ desk. followed speech desk kept (Read bodies) d)) old kept e new
-  unread_turn S at kept bodies NoneForTexts d e old new awaits seals (inl t) = textless_turn S at kept bodies d e old new awaits seals (inl t)
-  unread_turn S at kept bodies NoneForTexts d e old new awaits seals (inr t) = textless_turn S at kept bodies d e old new awaits seals t
-  unread_turn S at kept bodies NotRead d e old new awaits seals (inl t) =
-      (Unread, told_why S NotRead failed_once (unread (service at kept)) kept d e old new awaits seals t)
-  unread_turn S at kept bodies NotRead d e old new awaits seals (inr (inl t)) =
-      (UnreadRefused, told_why S NoneForTexts failed_once (unread_unsaid (service at kept)) kept d e old new awaits seals t)
-  unread_turn S at kept bodies NotRead d e old new awaits seals (inr (inr t)) =
-      (UnreadUnheard, ended_why S NotRead failed_once (stopped (unread (service at kept))) kept d e old new awaits seals t)
+  unread_turn S at kept bodies NoneForTexts d e old new awaits due seals (inl t) = textless_turn S at kept bodies d e old new awaits seals (inl t)
+  unread_turn S at kept bodies NoneForTexts d e old new awaits due seals (inr t) = textless_turn S at kept bodies d e old new awaits seals t
+  unread_turn S at kept bodies NotRead d e old new awaits due seals (inl t) =
+      let desk = unread kept (service at kept) in
+      (Unread, unread_due S NotRead desk kept bodies d e old new (due refl) (told_why S NotRead failed_once desk kept d e old new awaits seals t))
+  unread_turn S at kept bodies NotRead d e old new awaits due seals (inr (inl t)) =
+      let desk = unread_unsaid kept (service at kept) in
+      (UnreadRefused, unread_due S NoneForTexts desk kept bodies d e old new (due refl) (told_why S NoneForTexts failed_once desk kept d e old new awaits seals t))
+  unread_turn S at kept bodies NotRead d e old new awaits due seals (inr (inr t)) =
+      let desk = stopped (unread kept (service at kept)) in
+      (UnreadUnheard, ended_due S NotRead desk kept bodies d e old new (due refl) (ended_why S NotRead failed_once desk kept d e old new awaits seals t))
 
   -- the texts of a unit were read, and handed to the session
   pub texts_turn : (S S' : List JournalRecord → Counts → Type 0) (at : ℕ) (kept kept' : Kept) (bodies : List Body) (texts : List (List ℕ)) (d e : D) (old new : Reply) → speech.takes_texts d ≡ true

@@ -57,8 +57,8 @@ pub bytes_unserved : {T : Type 0} → (S : List JournalRecord → Counts → Typ
 bytes_unserved {T} S conn at kept es bytes view stops w result starved seals = (true, [], Ok None, by_seat (seat_at conn es))
   where
     by_seat : (o : Option Seat) → Answers S (hears_at o true [] (Ok None) at (record { kept = kept; seats = es }) conn bytes) kept es view stops result
-    by_seat None = subst (λ (r : Result T WantOfMemory). Answers S (ignored (record { kept = kept; seats = es })) kept es view stops r) (sym starved) ((refl, refl), seals, tt)
-    by_seat (Some seat) = subst (λ (r : Result T WantOfMemory). Answers S (unfed conn (record { kept = kept; seats = es })) kept es view stops r) (sym starved) ((refl, refl), seals, tt)
+    by_seat None = subst (λ (r : Result T WantOfMemory). Answers S (ignored (record { kept = kept; seats = es })) kept es view stops r) (sym starved) ((refl, refl, refl), seals, tt)
+    by_seat (Some seat) = subst (λ (r : Result T WantOfMemory). Answers S (unfed conn (record { kept = kept; seats = es })) kept es view stops r) (sym starved) ((refl, refl, refl), seals, tt)
 
 -- bytes for an open connection
 pub bytes_heard : {T : Type 0} → (S : List JournalRecord → Counts → Type 0) (conn at : ℕ) (kept kept' : Kept) (es lent es' : Seats) (s s' : Seat) (bytes : List ℕ) (turned : Turned)
@@ -96,17 +96,17 @@ going_answers {T} S a kept seats view of stops letters (Err e) ok err answers =
 
 -- memory was wanted before a string was sent
 pub leads_starved : (S : List JournalRecord → Counts → Type 0) (W : Hindrances → Type 0) (told : LinkTold) (s : State) (event : Event) (b : Bool) (hs : List Hindrance) (stage : Stage) (kept : Kept) (seats : Seats) (w : WantOfMemory) (result : Result Bool WantOfMemory)
-    → result ≡ Err w → kept ≡ (answered b hs stage s event).state.kept → (answered b hs stage s event).unsealed ≡ [] → kept ≡ s.kept
+    → result ≡ Err w → kept ≡ (answered b hs stage s event).state.kept → (answered b hs stage s event).unsealed ≡ [] → (answered b hs stage s event).counts ≡ none_counted → kept ≡ s.kept
     → S (answered b hs stage s event).unsealed (answered b hs stage s event).counts → AreSaid (answered b hs stage s event).consoles.readings
     → ((ds : List Delivery) → W (record { unfed = b; turns = hs; stage = stage; deliveries = ds; keeping = IsPassed }))
     → (h : Hindrances) × (unclosed : ℕ) × AreLicensed h.deliveries unclosed told told × Leads S unclosed h.keeping s.kept (happens h s event) told told kept seats result × W h
-leads_starved S W told s event b hs stage kept seats w result starved same none undone seals said goes =
+leads_starved S W told s event b hs stage kept seats w result starved same none quiet undone seals said goes =
     let h : Hindrances = record { unfed = b; turns = hs; stage = stage; deliveries = []; keeping = IsPassed } in (
       h,
       0,
       none_licensed told told refl refl,
       subst (λ (r : Result Bool WantOfMemory). Leads S 0 IsPassed s.kept (happens h s event) told told kept seats r) (sym starved) (record {
-        did = record { notes = []; goes = goes_none told; whole = ((happens h s event).notes, refl, inl (refl, refl, none, sym same ∙ undone)) };
+        did = record { notes = []; goes = goes_none told; whole = ((happens h s event).notes, refl, inl (refl, refl, none, quiet, sym same ∙ undone)) };
         kept_is = same;
         seats_are = tt;
         closed = tt;

@@ -29,7 +29,7 @@ pub opened_with : {T : Type 0} (a : Answered) (kept : Kept) (es es' : Seats) (co
 opened_with a kept es es' conn seat replies view (Ok letters) is opens =
     subst (λ (x : Answered). Answers IsNone x kept es' view (λ _. false) (Ok letters)) (sym is) ((refl, opens.0, opens.1, refl), (refl, refl), tt)
 opened_with {T} a kept es es' conn seat replies view (Err e) is opens =
-    subst (λ (x : Answered). Answers IsNone x kept es' view (λ _. false) (Err e)) (sym is) ((refl, refl), (refl, refl), tt)
+    subst (λ (x : Answered). Answers IsNone x kept es' view (λ _. false) (Err e)) (sym is) ((refl, refl, refl), (refl, refl), tt)
 
 -- the seat and the replies, as they are
 pub opened_as : {T : Type 0} (conn : ℕ) (made seat : Seat) (said replies : List Reply) (es es' : Seats) (view : T → List Reply) (result : Result T WantOfMemory)
@@ -57,7 +57,7 @@ pub left_ungreeted : {T : Type 0} (a : Answered) (kept : Kept) (es : Seats) (con
 left_ungreeted a kept es conn reply view (Ok letters) is none one =
     subst (λ (x : Answered). Answers IsNone x kept es view (λ _. false) (Ok letters)) (sym is) ((refl, refl, one ∙ ap (λ (r : Reply). r ∷ []) none, refl), (refl, refl), tt)
 left_ungreeted {T} a kept es conn reply view (Err e) is none one =
-    subst (λ (x : Answered). Answers IsNone x kept es view (λ _. false) (Err e)) (sym is) ((refl, refl), (refl, refl), tt)
+    subst (λ (x : Answered). Answers IsNone x kept es view (λ _. false) (Err e)) (sym is) ((refl, refl, refl), (refl, refl), tt)
 
 -- of a role that greets
 pub starved_greeting : (s : State) (conn : ℕ) (seat : Seat) (greeting : Option (List ℕ)) → is_some greeting ≡ true → admitted true s conn seat greeting ≡ ungreeted s conn

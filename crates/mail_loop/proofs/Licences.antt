@@ -1,10 +1,14 @@
 -- What licenses a hindrance.
 use Rattle.std.proofs.Common.{◌≡◌, ◌⊎◌, inl, inr, ℕ, ◌+◌, Bool, cond, true, false, true≢false, List, [], ◌∷◌, ◌++◌, Option, Result, Ok, Err, refl, ap, ◌∙◌}
+use Rattle.std.specs.Prelude.{if◌then◌else◌}
 use Rattle.std.specs.List.{list_any}
 use Rattle.undo_base.specs.declared.keys.User.{User}
+use Rattle.seal_log.specs.declared.fault.ReadFault.{ReadFault}
+use Rattle.seal_log.specs.declared.fault.ReadFault.TheVariants.{Disk as NotRead, NoMemory as NoneForTexts}
 use Rattle.verb_core.specs.declared.ask.Ask.{Ask}
 use Rattle.verb_core.specs.declared.ask.Refused.{Refused as WhyRefused}
 use Rattle.verb_core.specs.declared.item.Item.{Item}
+use Rattle.verb_core.specs.declared.mailbox.Body.{Body}
 use Rattle.verb_core.specs.Live.{live}
 use Rattle.verb_bytes.specs.declared.journal.JournalRecord.{JournalRecord}
 use Rattle.smtp_lines.specs.declared.line.SmtpLine.{SmtpLine}
@@ -24,7 +28,7 @@ use Rattle.mail_loop.specs.State.{Seats}
 use Rattle.mail_loop.specs.Turn.{Turn, lost, says}
 use Rattle.mail_loop.specs.Asked.{Asked, unsealed_as}
 use Rattle.mail_loop.specs.Session.{Session, Speech, IsLicensedRow, done, followed, pursued_as, served, submits}
-use Rattle.mail_loop.specs.Hindrance.{Hindrance, Clear, Refused, Textless, Unread, UnreadRefused, UnreadUnheard, Misread, Misled, Unstored, Unheard, Unanswered, Unsealed, Untold, Unwritten, UnwrittenUnheard, Halfway, IsLicensed, Licence, Row, Service, WrongRead, halfway, is_failed_write, is_starved_write, last_hindrance, misread, row, service, stopped, under, unread, unread_unsaid, without_items, without_seals, without_texts, without_writes}
+use Rattle.mail_loop.specs.Hindrance.{Hindrance, Clear, Refused, Textless, Unread, UnreadRefused, UnreadUnheard, Misread, Misled, Unstored, Unheard, Unanswered, Unsealed, Untold, Unwritten, UnwrittenUnheard, Halfway, IsLicensed, Licence, Row, Service, WrongRead, halfway, is_failed_write, is_starved_write, last_hindrance, misread, row, service, some_recorded, stopped, under, unread, unread_for, unread_unsaid, without_items, without_seals, without_texts, without_writes}
 use Rattle.mail_loop.specs.SmtpTurn.{memory_told, smtp_session}
 use Rattle.mail_loop.specs.ImapTurn.{imap_session}
 use Rattle.mail_loop.specs.PopTurn.{pop_session}
@@ -97,12 +101,16 @@ unsealed_fed : (kept : Kept) (due : Result Item WhyRefused) → (unsealed_as kep
 unsealed_fed kept (Ok item) = refl
 unsealed_fed kept (Err why) = refl
 
+-- nothing is read, or as a service says of some bodies
+abbrev ReadsAs : Service → Reads → Type 0
+ReadsAs desk r = (r ≡ none_read) ⊎ ((bodies : List Body) × (r ≡ desk.reads bodies))
+
 -- A turn over a service leaves nothing unsealed where the service does not, finds memory for its writes where it does, and reads nothing, or as the
 -- service says.
 record IsFair {D : Type 0} (turn : Service → Turn D) : Type 0 where
   seals : (desk : Service) → Seals D desk → (turn desk).unsealed ≡ []
   feeds : (desk : Service) → Feeds D desk → (turn desk).counts.starved ≡ 0
-  reads : (desk : Service) → ((turn desk).counts.reads ≡ none_read) ⊎ ((turn desk).counts.reads ≡ desk.reads)
+  reads : (desk : Service) → ReadsAs desk (turn desk).counts.reads
 
 -- The same of a turn that was given another text, or read none.
 record IsGiven {D : Type 0} (turn : Service → Turn D) : Type 0 where
@@ -116,17 +124,32 @@ record IsGivenRow {D : Type 0} (r : Row D) : Type 0 where
   reads : r.follows.counts.reads.failed ≡ 0
   starved : list_any is_starved_write r.licence ≡ false → r.follows.counts.starved ≡ 0
 
-either_none : (r : Reads) → (r ≡ none_read) ⊎ (r ≡ none_read) → r ≡ none_read
-either_none r (inl is) = is
-either_none r (inr is) = is
+-- a service reads all
+either_none : (desk : Service) → ((bodies : List Body) → desk.reads bodies ≡ none_read) → (r : Reads) → ReadsAs desk r → r ≡ none_read
+either_none desk all r (inl is) = is
+either_none desk all r (inr (bodies, is)) = is ∙ all bodies
 
 none_failed : (r : Reads) → (r ≡ none_read) ⊎ (r ≡ wrong_once) → r.failed ≡ 0
 none_failed r (inl is) = ap (λ (q : Reads). q.failed) is
 none_failed r (inr is) = ap (λ (q : Reads). q.failed) is
 
-none_wrong : (r : Reads) → (r ≡ none_read) ⊎ (r ≡ failed_once) → r.wrong ≡ 0
-none_wrong r (inl is) = ap (λ (q : Reads). q.wrong) is
-none_wrong r (inr is) = ap (λ (q : Reads). q.wrong) is
+-- it gives no other texts
+none_wrong : (desk : Service) → ((bodies : List Body) → (desk.reads bodies).wrong ≡ 0) → (r : Reads) → ReadsAs desk r → r.wrong ≡ 0
+none_wrong desk all r (inl is) = ap (λ (q : Reads). q.wrong) is
+none_wrong desk all r (inr (bodies, is)) = ap (λ (q : Reads). q.wrong) is ∙ all bodies
+
+-- texts that could not be read are no others
+unread_right : (why : ReadFault) (at : ℕ) (kept : Kept) (bodies : List Body) → ((unread_for why kept (service at kept)).reads bodies).wrong ≡ 0
+unread_right why at kept bodies = by_test (some_recorded kept bodies)
+  where
+    by_test : (b : Bool) → (if b then failed_once else none_read).wrong ≡ 0
+    by_test true = refl
+    by_test false = refl
+
+-- texts that are others are given whatever is asked
+given_other : (texts : List (List ℕ)) (desk : Service) (r : Reads) → ReadsAs (misread texts desk) r → (r ≡ none_read) ⊎ (r ≡ wrong_once)
+given_other texts desk r (inl is) = inl is
+given_other texts desk r (inr (bodies, is)) = inr is
 
 -- whether there is a licence
 abbrev some : List Licence → Bool
@@ -163,9 +186,9 @@ sealed_under : {D : Type 0} → (h : Hindrance) (at : ℕ) (kept : Kept) (f : Se
 sealed_under Clear at kept f none seals = seals (service at kept) (λ by ask. refl)
 sealed_under Refused at kept f none seals = refl
 sealed_under Textless at kept f none seals = seals (without_texts (service at kept)) (λ by ask. refl)
-sealed_under Unread at kept f none seals = seals (unread (service at kept)) (λ by ask. refl)
-sealed_under UnreadRefused at kept f none seals = seals (unread_unsaid (service at kept)) (λ by ask. refl)
-sealed_under UnreadUnheard at kept f none seals = seals (stopped (unread (service at kept))) (λ by ask. refl)
+sealed_under Unread at kept f none seals = seals (unread kept (service at kept)) (λ by ask. refl)
+sealed_under UnreadRefused at kept f none seals = seals (unread_unsaid kept (service at kept)) (λ by ask. refl)
+sealed_under UnreadUnheard at kept f none seals = seals (stopped (unread kept (service at kept))) (λ by ask. refl)
 sealed_under (Misread texts h) at kept f none seals = sealed_under h at kept (λ desk. f (misread texts desk)) none (λ desk all. seals (misread texts desk) all)
 sealed_under (Misled said left) at kept f none seals = seals (service at kept) (λ by ask. refl)
 sealed_under Unstored at kept f none seals = seals (without_items kept (service at kept)) (λ by ask. refl)
@@ -183,9 +206,9 @@ fed_under : {D : Type 0} → (h : Hindrance) (at : ℕ) (kept : Kept) (f : Servi
 fed_under Clear at kept f none feeds = feeds (service at kept) (λ by ask. refl)
 fed_under Refused at kept f none feeds = refl
 fed_under Textless at kept f none feeds = feeds (without_texts (service at kept)) (λ by ask. refl)
-fed_under Unread at kept f none feeds = feeds (unread (service at kept)) (λ by ask. refl)
-fed_under UnreadRefused at kept f none feeds = feeds (unread_unsaid (service at kept)) (λ by ask. refl)
-fed_under UnreadUnheard at kept f none feeds = feeds (stopped (unread (service at kept))) (λ by ask. refl)
+fed_under Unread at kept f none feeds = feeds (unread kept (service at kept)) (λ by ask. refl)
+fed_under UnreadRefused at kept f none feeds = feeds (unread_unsaid kept (service at kept)) (λ by ask. refl)
+fed_under UnreadUnheard at kept f none feeds = feeds (stopped (unread kept (service at kept))) (λ by ask. refl)
 fed_under (Misread texts h) at kept f none feeds = fed_under h at kept (λ desk. f (misread texts desk)) none (λ desk all. feeds (misread texts desk) all)
 fed_under (Misled said left) at kept f none feeds = feeds (service at kept) (λ by ask. refl)
 fed_under Unstored at kept f none feeds = feeds (without_items kept (service at kept)) (λ by ask. refl)
@@ -246,10 +269,10 @@ module _ {D : Type 0} (speech : Speech D) (kept : Kept) where
   followed_fed desk (Read bodies) d feeds = let t = speech.heard d (desk.texts bodies) in submits_fed desk t.out t.dialog feeds
   followed_fed desk (Submit asked) d feeds = submits_fed desk (Submit asked) d feeds
 
-  followed_reads : (desk : Service) (out : Out) (d : D) → ((followed speech desk kept out d).counts.reads ≡ none_read) ⊎ ((followed speech desk kept out d).counts.reads ≡ desk.reads)
+  followed_reads : (desk : Service) (out : Out) (d : D) → ReadsAs desk (followed speech desk kept out d).counts.reads
   followed_reads desk (Say said) d = inl refl
   followed_reads desk (Bye said) d = inl refl
-  followed_reads desk (Read bodies) d = inr refl
+  followed_reads desk (Read bodies) d = inr (bodies, refl)
   followed_reads desk (Submit asked) d = inl (quiet_submits speech desk kept (Submit asked) d)
 
 -- the desk as it is, without memory for texts or for items, and with texts that are not read, seals what it is asked
@@ -283,11 +306,11 @@ module _ {D : Type 0} (at : ℕ) (kept : Kept) where
   given_row Textless told turn sealed read fair =
       let desk = without_texts (service at kept) in record { writes = λ none. fair.seals desk all_sealed; reads = none_failed (turn desk).counts.reads (fair.reads desk); starved = λ none. fair.feeds desk all_fed }
   given_row Unread told turn sealed read fair =
-      let desk = unread (service at kept) in record { writes = λ none. fair.seals desk all_sealed; reads = none_failed (turn desk).counts.reads (fair.reads desk); starved = λ none. fair.feeds desk all_fed }
+      let desk = unread kept (service at kept) in record { writes = λ none. fair.seals desk all_sealed; reads = none_failed (turn desk).counts.reads (fair.reads desk); starved = λ none. fair.feeds desk all_fed }
   given_row UnreadRefused told turn sealed read fair =
-      let desk = unread_unsaid (service at kept) in record { writes = λ none. fair.seals desk all_sealed; reads = none_failed (turn desk).counts.reads (fair.reads desk); starved = λ none. fair.feeds desk all_fed }
+      let desk = unread_unsaid kept (service at kept) in record { writes = λ none. fair.seals desk all_sealed; reads = none_failed (turn desk).counts.reads (fair.reads desk); starved = λ none. fair.feeds desk all_fed }
   given_row UnreadUnheard told turn sealed read fair =
-      let desk = stopped (unread (service at kept)) in record { writes = λ none. fair.seals desk all_sealed; reads = none_failed (turn desk).counts.reads (fair.reads desk); starved = λ none. fair.feeds desk all_fed }
+      let desk = stopped (unread kept (service at kept)) in record { writes = λ none. fair.seals desk all_sealed; reads = none_failed (turn desk).counts.reads (fair.reads desk); starved = λ none. fair.feeds desk all_fed }
   given_row (Misread texts h) told turn sealed read fair =
       let other = given_row h (lost kept) (λ desk. turn (misread texts desk)) refl refl (record {
         seals = λ desk all. fair.seals (misread texts desk) all;
@@ -319,21 +342,21 @@ module _ {D : Type 0} (at : ℕ) (kept : Kept) where
   licensed : (h : Hindrance) (told : Turn D) (turn : Service → Turn D) → told.unsealed ≡ [] → told.counts ≡ none_counted → IsFair turn
       → ((texts : List (List ℕ)) → IsGiven (λ desk. turn (misread texts desk))) → IsLicensed (turn (service at kept)) (row h at kept told turn)
   licensed Clear told turn sealed read fair given =
-      quiet_row (turn (service at kept)) (row Clear at kept told turn) (λ e. refl) (fair.seals (service at kept) all_sealed) (either_none (turn (service at kept)).counts.reads (fair.reads (service at kept)))
+      quiet_row (turn (service at kept)) (row Clear at kept told turn) (λ e. refl) (fair.seals (service at kept) all_sealed) (either_none (service at kept) (λ bodies. refl) (turn (service at kept)).counts.reads (fair.reads (service at kept)))
       (fair.feeds (service at kept) all_fed)
   licensed Refused told turn sealed read fair given = quiet_row (turn (service at kept)) (row Refused at kept told turn) (λ e. absurd (true≢false (ap some e))) sealed (ap (λ (q : Counts). q.reads) read) (ap (λ (q : Counts). q.starved) read)
   licensed Textless told turn sealed read fair given =
-      let desk = without_texts (service at kept) in quiet_row (turn (service at kept)) (row Textless at kept told turn) (λ e. absurd (true≢false (ap some e))) (fair.seals desk all_sealed) (either_none (turn desk).counts.reads (fair.reads desk))
+      let desk = without_texts (service at kept) in quiet_row (turn (service at kept)) (row Textless at kept told turn) (λ e. absurd (true≢false (ap some e))) (fair.seals desk all_sealed) (either_none desk (λ bodies. refl) (turn desk).counts.reads (fair.reads desk))
       (fair.feeds desk all_fed)
   licensed Unread told turn sealed read fair given =
-      let desk = unread (service at kept) in
-      record { goes = λ e. absurd (true≢false (ap some e)); writes = λ none. fair.seals desk all_sealed; reads = λ wrong. absurd (true≢false wrong); wrong = λ none. none_wrong (turn desk).counts.reads (fair.reads desk); starved = λ none. fair.feeds desk all_fed }
+      let desk = unread kept (service at kept) in
+      record { goes = λ e. absurd (true≢false (ap some e)); writes = λ none. fair.seals desk all_sealed; reads = λ wrong. absurd (true≢false wrong); wrong = λ none. none_wrong desk (unread_right NotRead at kept) (turn desk).counts.reads (fair.reads desk); starved = λ none. fair.feeds desk all_fed }
   licensed UnreadRefused told turn sealed read fair given =
-      let desk = unread_unsaid (service at kept) in
-      record { goes = λ e. absurd (true≢false (ap some e)); writes = λ none. fair.seals desk all_sealed; reads = λ wrong. absurd (true≢false wrong); wrong = λ none. none_wrong (turn desk).counts.reads (fair.reads desk); starved = λ none. fair.feeds desk all_fed }
+      let desk = unread_unsaid kept (service at kept) in
+      record { goes = λ e. absurd (true≢false (ap some e)); writes = λ none. fair.seals desk all_sealed; reads = λ wrong. absurd (true≢false wrong); wrong = λ none. none_wrong desk (unread_right NoneForTexts at kept) (turn desk).counts.reads (fair.reads desk); starved = λ none. fair.feeds desk all_fed }
   licensed UnreadUnheard told turn sealed read fair given =
-      let desk = stopped (unread (service at kept)) in
-      record { goes = λ e. absurd (true≢false (ap some e)); writes = λ none. fair.seals desk all_sealed; reads = λ wrong. absurd (true≢false wrong); wrong = λ none. none_wrong (turn desk).counts.reads (fair.reads desk); starved = λ none. fair.feeds desk all_fed }
+      let desk = stopped (unread kept (service at kept)) in
+      record { goes = λ e. absurd (true≢false (ap some e)); writes = λ none. fair.seals desk all_sealed; reads = λ wrong. absurd (true≢false wrong); wrong = λ none. none_wrong desk (unread_right NotRead at kept) (turn desk).counts.reads (fair.reads desk); starved = λ none. fair.feeds desk all_fed }
   licensed (Misread texts h) told turn sealed read fair given =
       let other = given_row h (lost kept) (λ desk. turn (misread texts desk)) refl refl (given texts) in
       record { goes = λ e. absurd (true≢false (ap some e)); writes = other.writes; reads = λ none. other.reads; wrong = λ wrong. absurd (true≢false wrong); starved = other.starved }
@@ -341,36 +364,36 @@ module _ {D : Type 0} (at : ℕ) (kept : Kept) where
       record {
         goes = λ e. absurd (true≢false (ap some e));
         writes = λ none. fair.seals (service at kept) all_sealed;
-        reads = λ none. ap (λ (q : Reads). q.failed) (either_none (turn (service at kept)).counts.reads (fair.reads (service at kept)));
+        reads = λ none. ap (λ (q : Reads). q.failed) (either_none (service at kept) (λ bodies. refl) (turn (service at kept)).counts.reads (fair.reads (service at kept)));
         wrong = λ wrong. absurd (true≢false wrong);
         starved = λ none. fair.feeds (service at kept) all_fed;
       }
   licensed Unstored told turn sealed read fair given =
-      let desk = without_items kept (service at kept) in quiet_row (turn (service at kept)) (row Unstored at kept told turn) (λ e. absurd (true≢false (ap some e))) (fair.seals desk (λ by ask. refl, λ at' kept' t f. refl)) (either_none (turn desk).counts.reads (fair.reads desk))
+      let desk = without_items kept (service at kept) in quiet_row (turn (service at kept)) (row Unstored at kept told turn) (λ e. absurd (true≢false (ap some e))) (fair.seals desk (λ by ask. refl, λ at' kept' t f. refl)) (either_none desk (λ bodies. refl) (turn desk).counts.reads (fair.reads desk))
       (fair.feeds desk (λ by ask. refl, λ at' kept' t f. refl))
   licensed Unheard told turn sealed read fair given = quiet_row (turn (service at kept)) (row Unheard at kept told turn) (λ e. absurd (true≢false (ap some e))) refl refl refl
   licensed Unanswered told turn sealed read fair given =
-      let desk = stopped (service at kept) in quiet_row (turn (service at kept)) (row Unanswered at kept told turn) (λ e. absurd (true≢false (ap some e))) (fair.seals desk all_sealed) (either_none (turn desk).counts.reads (fair.reads desk))
+      let desk = stopped (service at kept) in quiet_row (turn (service at kept)) (row Unanswered at kept told turn) (λ e. absurd (true≢false (ap some e))) (fair.seals desk all_sealed) (either_none desk (λ bodies. refl) (turn desk).counts.reads (fair.reads desk))
       (fair.feeds desk all_fed)
   licensed Unsealed told turn sealed read fair given =
       let desk = without_seals at kept (service at kept) in
-      let none = either_none (turn desk).counts.reads (fair.reads desk) in
+      let none = either_none desk (λ bodies. refl) (turn desk).counts.reads (fair.reads desk) in
       record { goes = λ e. absurd (true≢false (ap some e)); writes = λ wrong. absurd (true≢false wrong); reads = λ _. ap (λ (q : Reads). q.failed) none; wrong = λ _. ap (λ (q : Reads). q.wrong) none; starved = λ _. fair.feeds desk unsealed_feeds }
   licensed Untold told turn sealed read fair given =
       let desk = stopped (without_seals at kept (service at kept)) in
-      let none = either_none (turn desk).counts.reads (fair.reads desk) in
+      let none = either_none desk (λ bodies. refl) (turn desk).counts.reads (fair.reads desk) in
       record { goes = λ e. absurd (true≢false (ap some e)); writes = λ wrong. absurd (true≢false wrong); reads = λ _. ap (λ (q : Reads). q.failed) none; wrong = λ _. ap (λ (q : Reads). q.wrong) none; starved = λ _. fair.feeds desk unsealed_feeds }
   licensed Unwritten told turn sealed read fair given =
       let desk = without_writes kept (service at kept) in
-      let none = either_none (turn desk).counts.reads (fair.reads desk) in
+      let none = either_none desk (λ bodies. refl) (turn desk).counts.reads (fair.reads desk) in
       record { goes = λ e. absurd (true≢false (ap some e)); writes = λ _. fair.seals desk none_sealed; reads = λ _. ap (λ (q : Reads). q.failed) none; wrong = λ _. ap (λ (q : Reads). q.wrong) none; starved = λ wrong. absurd (true≢false wrong) }
   licensed UnwrittenUnheard told turn sealed read fair given =
       let desk = stopped (without_writes kept (service at kept)) in
-      let none = either_none (turn desk).counts.reads (fair.reads desk) in
+      let none = either_none desk (λ bodies. refl) (turn desk).counts.reads (fair.reads desk) in
       record { goes = λ e. absurd (true≢false (ap some e)); writes = λ _. fair.seals desk none_sealed; reads = λ _. ap (λ (q : Reads). q.failed) none; wrong = λ _. ap (λ (q : Reads). q.wrong) none; starved = λ wrong. absurd (true≢false wrong) }
   licensed (Halfway h) told turn sealed read fair given =
       let desk = halfway h (service at kept) in
-      let none = either_none (turn desk).counts.reads (fair.reads desk) in
+      let none = either_none desk (λ bodies. refl) (turn desk).counts.reads (fair.reads desk) in
       record {
         goes = λ e. ap (λ (x : Hindrance). turn (record (service at kept) { further = x })) (none_licensed h at kept (lost {D = D} kept) (λ desk. lost kept) e);
         writes = λ without. fair.seals desk (λ by ask. refl, further_seals h without);
@@ -393,7 +416,7 @@ session_licensed {D} session h at kept others d unit sealed read =
     (λ texts. record {
       seals = λ desk all. followed_sealed session.speech kept (misread texts desk) t.out t.dialog all;
       feeds = λ desk all. followed_fed session.speech kept (misread texts desk) t.out t.dialog all;
-      reads = λ desk. followed_reads session.speech kept (misread texts desk) t.out t.dialog;
+      reads = λ desk. given_other texts desk (followed session.speech (misread texts desk) kept t.out t.dialog).counts.reads (followed_reads session.speech kept (misread texts desk) t.out t.dialog);
     })
 
 -- what a session says of want of memory for a unit

@@ -504,7 +504,7 @@ cut_at_close turns n old mid new kept s step notes more so all one passed stops 
 left_starved : (turns n : ℕ) (old mid new : LinkTold) (kept : Kept) (s : State) (step : Step) (notes more : List LinkNote) → (so : SoServed turns old mid kept s)
     → (happens step.hindrances s step.event).notes ≡ notes ++ more → WantsIn (happens step.hindrances s step.event) s.kept n new notes more
     → step.hindrances.keeping ≡ IsPassed → IsLeftStarved n (so.steps ++ step ∷ []) kept more × (n ≡ 1 → new.starved_last ≡ true)
-left_starved turns n old mid new kept s step notes more so all (inl (none, zero, sealed, undone)) passed = (
+left_starved turns n old mid new kept s step notes more so all (inl (none, zero, sealed, quiet, undone)) passed = (
   inr (inl (
     record {
       of_last = record {
@@ -514,6 +514,7 @@ left_starved turns n old mid new kept s step notes more so all (inl (none, zero,
         notes_are = ap (λ (q : Outcome). q.notes) (here_is turns old mid kept s step so) ∙ all ∙ ap (λ l. l ++ more) none;
       };
       kept_is = ap (λ (q : Outcome). q.state.kept) (here_is turns old mid kept s step so) ∙ undone ∙ ap (λ (q : Outcome). q.state.kept) (sym so.leaves);
+      counts_are = ap (λ (q : Outcome). q.counts) (here_is turns old mid kept s step so) ∙ quiet;
     },
     zero,
   )),

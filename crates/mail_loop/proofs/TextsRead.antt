@@ -17,7 +17,7 @@ use Rattle.console_session.proofs.Deciding.{IsSame, decided}
 use Rattle.mail_loop.specs.declared.reply.Reply.{Reply}
 use Rattle.mail_loop.specs.Asked.{HaveSealed}
 use Rattle.mail_loop.specs.Session.{Speech, followed}
-use Rattle.mail_loop.specs.Hindrance.{Hindrance, under}
+use Rattle.mail_loop.specs.Hindrance.{Hindrance, some_recorded, under}
 use Rattle.mail_loop.specs.Took.{ReadsNone, Takes, TakesTexts, reads_of}
 use Rattle.mail_loop.proofs.Dialogs.{texts_turn, unread_turn}
 use Rattle.mail_loop.proofs.Sealed.{Still, Then, chained_after, failed_sealed, still_sealed, wrong_sealed}
@@ -44,14 +44,14 @@ module _ {D Dialog : Type 0} (told : D → DiskTold) (speech : Speech Dialog) wh
       which (inl same) = inl same
       which (inr other) = inr (λ failed n seals. wrong_sealed told a c failed n (λ holds. other (given holds)) (all failed n seals))
 
-  -- why texts did not come is told to the session
+  -- why texts did not come is told to the session: where the disk is why, a record has one of them
   pub texts_unread : Still told → (at : ℕ) (a b : Lasting D) (bodies : List Body) (why : ReadFault) (d e : Dialog) (old new : Reply) → speech.takes_texts d ≡ true
-      → IsStill told a b → (why ≡ Disk → ReadFailed (told a.disk) (told b.disk)) → (why ≡ NoMemory → ReadsWell told a b)
+      → IsStill told a b → (why ≡ Disk → some_recorded a.kept bodies ≡ true) → (why ≡ Disk → ReadFailed (told a.disk) (told b.disk)) → (why ≡ NoMemory → ReadsWell told a b)
       → ReadsNone speech why b.kept d old e new
       → (h : Hindrance) × Takes (HaveSealed told a b) (under h at a.kept (λ desk. followed speech desk a.kept (Read bodies) d)) old b.kept e new
-  texts_unread still at a b bodies why d e old new awaits is cause well t =
+  texts_unread still at a b bodies why d e old new awaits is due cause well t =
       subst (λ (k : Kept). (h : Hindrance) × Takes (HaveSealed told a b) (under h at a.kept (λ desk. followed speech desk a.kept (Read bodies) d)) old k e new) (sym is.kept)
-      (unread_turn speech (HaveSealed told a b) at a.kept bodies why d e old new awaits (counts why cause well)
+      (unread_turn speech (HaveSealed told a b) at a.kept bodies why d e old new awaits due (counts why cause well)
       (subst (λ (k : Kept). ReadsNone speech why k d old e new) is.kept t))
     where
       counts : (w : ReadFault) → (w ≡ Disk → ReadFailed (told a.disk) (told b.disk)) → (w ≡ NoMemory → ReadsWell told a b) → HaveSealed told a b [] (read_so (reads_of w))

@@ -88,11 +88,11 @@ pub record Sends (d : Delivered) (old new : LinkTold) (seats : Seats) (result : 
   pub did : Did (λ notes more. StopsAtClose more new) d.notes old new result
   pub seats_are : MatchResult result (λ _. seats ≡ d.seats) (λ _. Unit {0})
 
--- memory was wanted in an event: for its bytes and its strings, before anything was sealed and done, so that what was kept before is kept; or for a
--- close of it
+-- memory was wanted in an event: for its bytes and its strings, before anything was sealed, read and done, so that what was kept before is kept; or for
+-- a close of it
 abbrev pub WantsIn : Outcome → Kept → ℕ → LinkTold → List LinkNote → List LinkNote → Type 0
 WantsIn o before unclosed new notes more =
-    ((notes ≡ []) × (unclosed ≡ 0) × (o.unsealed ≡ []) × (o.state.kept ≡ before)) ⊎ ((unclosed ≡ 1) × StopsAtClose more new)
+    ((notes ≡ []) × (unclosed ≡ 0) × (o.unsealed ≡ []) × (o.counts ≡ none_counted) × (o.state.kept ≡ before)) ⊎ ((unclosed ≡ 1) × StopsAtClose more new)
 
 -- an event, before which this was kept, led to this outcome, and serving is asked to stop or not, or memory was wanted before the link had done all of it; S holds of the record
 -- whose sealing failed and of what was counted, and what consoles' bytes were read as is so. Where memory was wanted no snapshot was taken.
@@ -105,11 +105,11 @@ pub record Leads (S : List JournalRecord → Counts → Type 0) (unclosed : ℕ)
   pub seals : S o.unsealed o.counts
   pub read : AreSaid o.consoles.readings
 
--- what an event leaves before its strings are sent, or memory was wanted for it or for the replies, and nothing was sealed
+-- what an event leaves before its strings are sent, or memory was wanted for it or for the replies, and nothing was sealed and nothing counted
 abbrev pub AnswersWith : {T : Type 0} → Answered → Kept → Seats → (T → List Reply) → (T → Bool) → Result T WantOfMemory → Type 0
 AnswersWith a kept seats view stops (Ok replies) =
     (kept ≡ a.state.kept) × (seats ≡ a.state.seats) × (view replies ≡ a.replies) × (stops replies ≡ a.consoles.stops)
-AnswersWith a kept seats view stops (Err e) = (kept ≡ a.state.kept) × (a.unsealed ≡ [])
+AnswersWith a kept seats view stops (Err e) = (kept ≡ a.state.kept) × (a.unsealed ≡ []) × (a.counts ≡ none_counted)
 
 -- S holds of the record whose sealing failed and of what was counted, and what consoles' bytes were read as is so
 abbrev pub Answers : {T : Type 0} → (List JournalRecord → Counts → Type 0) → Answered → Kept → Seats → (T → List Reply) → (T → Bool) → Result T WantOfMemory → Type 0

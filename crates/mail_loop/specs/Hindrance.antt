@@ -1,10 +1,11 @@
 -- How a turn may go otherwise: one table, with what licenses each hindrance and what follows.
-use Rattle.std.specs.Prelude.{◌≡◌, ℕ, Bool, true, false, List, [], ◌∷◌, Result, Ok, Err}
+use Rattle.std.specs.Prelude.{◌≡◌, ℕ, Bool, true, false, if◌then◌else◌, List, [], ◌∷◌, Result, Ok, Err}
 use Rattle.std.specs.List.{list_any}
 use Rattle.seal_log.specs.declared.fault.ReadFault.{ReadFault}
 use Rattle.seal_log.specs.declared.fault.ReadFault.TheVariants.{Disk, NoMemory as NoneForTexts}
 use Rattle.verb_core.specs.declared.mailbox.Body.{Body}
 use Rattle.desk_journal.specs.Reading.{Reads, failed_once, none_read, wrong_once}
+use Rattle.desk_journal.specs.Stored.{is_recorded}
 use Rattle.store_kept.specs.Kept.{Kept}
 use Rattle.store_kept.specs.Texts.{texts_kept}
 use Rattle.mail_loop.specs.Asked.{Asking, does, fails, starves, unwritten}
@@ -18,7 +19,7 @@ pub data Hindrance : Type 0 where
   Refused : Hindrance
   -- no memory was found for the texts that a unit wants, and the client is told
   Textless : Hindrance
-  -- the disk did not read a text that a unit wants, and the client is told: nothing is done
+  -- the disk did not read a text that a unit wants and that a record has, and the client is told: nothing is done
   Unread : Hindrance
   -- the same, and no memory was found for telling that: the client is told of want of memory
   UnreadRefused : Hindrance
@@ -101,18 +102,18 @@ pub record IsLicensed {D : Type 0} (clear : Turn D) (r : Row D) : Type 0 where
 
 -- ---- the desk
 
--- How the desk serves a unit: the texts that it gives, whether it could not read them or gave others, and what becomes of an ask; at which moment, and what
--- hinders a further ask, to which the outcome of the first leads.
+-- How the desk serves a unit: the texts that it gives of bodies, whether it could not read them or gave others, and what becomes of an ask; at which moment,
+-- and what hinders a further ask, to which the outcome of the first leads.
 pub record Service : Type 0 where
   pub texts : List Body → Result (List (List ℕ)) ReadFault
-  pub reads : Reads
+  pub reads : List Body → Reads
   pub asked : Asking
   pub at : ℕ
   pub further : Hindrance
 
 -- it gives the texts of the items in force, and does what is asked
 abbrev pub service : ℕ → Kept → Service
-service at kept = record { texts = λ bodies. Ok (texts_kept kept bodies); reads = none_read; asked = does at kept; at = at; further = Clear }
+service at kept = record { texts = λ bodies. Ok (texts_kept kept bodies); reads = λ bodies. none_read; asked = does at kept; at = at; further = Clear }
 
 -- ---- what the desk does otherwise
 
@@ -120,17 +121,28 @@ service at kept = record { texts = λ bodies. Ok (texts_kept kept bodies); reads
 abbrev pub without_texts : Service → Service
 without_texts desk = record desk { texts = λ bodies. Err NoneForTexts }
 
+-- whether a record has one of the texts of bodies: then they are read, and else they are in memory
+abbrev pub some_recorded : Kept → List Body → Bool
+some_recorded kept bodies = list_any (is_recorded kept.timeline) bodies
+
+-- texts that a record has are not had for this cause, and a read failed for them; those in memory are given
+abbrev pub unread_for : ReadFault → Kept → Service → Service
+unread_for why kept desk = record desk {
+  texts = λ bodies. if some_recorded kept bodies then Err why else desk.texts bodies;
+  reads = λ bodies. if some_recorded kept bodies then failed_once else desk.reads bodies;
+}
+
 -- the disk does not read the texts
-abbrev pub unread : Service → Service
-unread desk = record desk { texts = λ bodies. Err Disk; reads = failed_once }
+abbrev pub unread : Kept → Service → Service
+unread kept desk = unread_for Disk kept desk
 
 -- the disk does not read the texts, and no memory is found for telling that
-abbrev pub unread_unsaid : Service → Service
-unread_unsaid desk = record desk { texts = λ bodies. Err NoneForTexts; reads = failed_once }
+abbrev pub unread_unsaid : Kept → Service → Service
+unread_unsaid kept desk = unread_for NoneForTexts kept desk
 
 -- the disk gives these texts, which are not those that were stored
 abbrev pub misread : List (List ℕ) → Service → Service
-misread texts desk = record desk { texts = λ bodies. Ok texts; reads = wrong_once }
+misread texts desk = record desk { texts = λ bodies. Ok texts; reads = λ bodies. wrong_once }
 
 -- it finds no memory for what is asked, and nothing changes
 abbrev pub without_items : Kept → Service → Service
@@ -160,14 +172,14 @@ stopped desk = record desk { further = Unheard }
 -- ---- the table
 
 -- A turn over what the desk serves, hindered or not, where `told` comes of want of memory that the session finds. A hindrance that a turn does not meet,
--- as one of texts where none are wanted, hinders nothing.
+-- as one of texts where none are wanted, or where no record has one of them, hinders nothing.
 abbrev pub row : {D : Type 0} → Hindrance → ℕ → Kept → Turn D → (Service → Turn D) → Row D
 row Clear at kept told turn = record { licence = []; follows = turn (service at kept) }
 row Refused at kept told turn = record { licence = Free ∷ []; follows = told }
 row Textless at kept told turn = record { licence = Free ∷ []; follows = turn (without_texts (service at kept)) }
-row Unread at kept told turn = record { licence = FailedRead ∷ []; follows = turn (unread (service at kept)) }
-row UnreadRefused at kept told turn = record { licence = FailedRead ∷ Free ∷ []; follows = turn (unread_unsaid (service at kept)) }
-row UnreadUnheard at kept told turn = record { licence = FailedRead ∷ Free ∷ []; follows = unanswered (turn (stopped (unread (service at kept)))) }
+row Unread at kept told turn = record { licence = FailedRead ∷ []; follows = turn (unread kept (service at kept)) }
+row UnreadRefused at kept told turn = record { licence = FailedRead ∷ Free ∷ []; follows = turn (unread_unsaid kept (service at kept)) }
+row UnreadUnheard at kept told turn = record { licence = FailedRead ∷ Free ∷ []; follows = unanswered (turn (stopped (unread kept (service at kept)))) }
 row (Misread texts h) at kept told turn =
     let other = row h at kept (lost kept) (λ desk. turn (misread texts desk)) in record { licence = WrongRead ∷ other.licence; follows = other.follows }
 row (Misled said left) at kept told turn = record { licence = WrongRead ∷ []; follows = turn (service at kept) }

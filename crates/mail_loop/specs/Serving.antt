@@ -93,10 +93,11 @@ pub record IsOfLast (steps : List Step) (old : Kept) (front more : List LinkNote
   pub steps_are : steps ≡ before ++ last ∷ []
   pub notes_are : (happens last.hindrances (run before (at_first old)).state last.event).notes ≡ front ++ more
 
--- the last step's event leads to all this, of which nothing was done: what was kept before it is kept
+-- the last step's event leads to all this, of which nothing was done: what was kept before it is kept, no text was not read, and no write found no memory
 pub record IsUndone (steps : List Step) (old : Kept) (more : List LinkNote) : Type 0 where
   pub of_last : IsOfLast steps old [] more
   pub kept_is : (happens of_last.last.hindrances (run of_last.before (at_first old)).state of_last.last.event).state.kept ≡ (run of_last.before (at_first old)).state.kept
+  pub counts_are : (happens of_last.last.hindrances (run of_last.before (at_first old)).state of_last.last.event).counts ≡ none_counted
 
 -- no memory was found for a close in the last step: the link did all before it, and no snapshot was taken
 pub record IsCutAtClose (wants : ℕ) (steps : List Step) (old : Kept) (more : List LinkNote) : Type 0 where

@@ -130,7 +130,7 @@ submits speech desk kept (Submit asked) d = pursued speech desk kept d (desk.ask
 abbrev pub followed : {D : Type 0} → Speech D → Service → Kept → Out → D → Turn D
 followed speech desk kept (Say said) d = says said kept d
 followed speech desk kept (Bye said) d = ends said kept
-followed speech desk kept (Read bodies) d = let t = speech.heard d (desk.texts bodies) in reading desk.reads (submits speech desk kept t.out t.dialog)
+followed speech desk kept (Read bodies) d = let t = speech.heard d (desk.texts bodies) in reading (desk.reads bodies) (submits speech desk kept t.out t.dialog)
 followed speech desk kept (Submit asked) d = pursued speech desk kept d (desk.asked (speech.user d) asked)
 
 -- a unit of the stream, at a moment and beside the other connections

@@ -22,7 +22,7 @@ returns-in_err-answer-clause-leads g c =
     let new = c.answer_event.new.desk in
     let s : State = record { kept = old.kept; seats = c.args.connections.now.entries } in
     leads_starved (HaveSealed disk old new) (λ (h : Hindrances). GoesThrough disk s (record { event = c.args.event.now; hindrances = h }) old new) (told c.args.link.now) s c.args.event.now b hs stage new.kept
-    c.answer_event.new.connections.entries p.0 c.from_residual.result p.1 a.0.0 a.0.1 c.in_err-answer.ensures.undone a.1 a.2
+    c.answer_event.new.connections.entries p.0 c.from_residual.result p.1 a.0.0 a.0.1 a.0.2 c.in_err-answer.ensures.undone a.1 a.2
     (λ ds. went_alone disk c.seals_join.ensures.nothing s (record { event = c.args.event.now; hindrances = record { unfed = b; turns = hs; stage = stage; deliveries = ds; keeping = IsPassed } }) old new (passed_on new) c.requires.sealed a.1 a.0.0)
 
 pub returns-in-Ok-clause-leads : goal.returns-in-Ok-clause-leads

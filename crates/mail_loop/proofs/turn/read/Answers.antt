@@ -1,7 +1,8 @@
-use Rattle.std.proofs.Common.{◌≡◌, List, Err, ap, subst}
+use Rattle.std.proofs.Common.{◌≡◌, true, List, Err, ap, subst}
 use Rattle.verb_core.specs.declared.mailbox.Body.{Body}
 use Rattle.store_kept.specs.Texts.{texts_kept}
 use Rattle.desk_journal.specs.Stored.{HoldsTexts}
+use Rattle.mail_loop.specs.Hindrance.{some_recorded}
 use Rattle.mail_loop.proofs.TextsRead.{texts_given, texts_unread}
 use Rattle.mail_loop.proofs.turn.read.Goals as goal
 
@@ -17,4 +18,6 @@ pub returns-in-Err-clause-turn : goal.returns-in-Err-clause-turn
 returns-in-Err-clause-turn g c =
     let new = c.read_none.new in
     texts_unread g.D.Disk.told g.S.Speaks.speech c.seals_join.ensures.still c.args.at c.args.desk.now c.texts.new.self c.args.bodies.now c.in-Err.why c.args.session.now new.session
-    c.args.reply.now new.reply c.requires.reading c.texts.ensures.still (λ e. c.in-Err.ensures.cause.disk (ap Err e)) (λ e. c.in-Err.ensures.cause.no_memory (ap Err e)) (c.read_none.ensures.read c.texts.new.self.kept)
+    c.args.reply.now new.reply c.requires.reading c.texts.ensures.still
+    (λ e. subst (λ (bodies : List Body). some_recorded c.args.desk.now.kept bodies ≡ true) c.as_slice.ensures (c.in-Err.ensures.due (ap Err e)))
+    (λ e. c.in-Err.ensures.cause.disk (ap Err e)) (λ e. c.in-Err.ensures.cause.no_memory (ap Err e)) (c.read_none.ensures.read c.texts.new.self.kept)
