@@ -762,7 +762,7 @@ module _ {D : Type 0} (speech : Speech D) where
   unread_due : (S : List JournalRecord → Counts → Type 0) (why : ReadFault) (desk : Service) (kept : Kept) (bodies : List Body) (d e : D) (old new : Reply) → some_recorded kept bodies ≡ true
       → Takes S (let u = speech.heard d (Err why) in reading failed_once (submits speech desk kept u.out u.dialog)) old kept e new
       → Takes S (let u = speech.heard d (cond (some_recorded kept bodies) (Err why) (Ok (texts_kept kept bodies))) in
-          reading (cond (some_recorded kept bodies) failed_once none_read) (submits speech desk kept u.out u.dialog)) old kept e new
+      reading (cond (some_recorded kept bodies) failed_once none_read) (submits speech desk kept u.out u.dialog)) old kept e new
   unread_due S why desk kept bodies d e old new due t =
       subst (λ (b : Bool). Takes S (let u = speech.heard d (cond b (Err why) (Ok (texts_kept kept bodies))) in reading (cond b failed_once none_read) (submits speech desk kept u.out u.dialog)) old kept e new)
       (sym due) t
@@ -771,7 +771,7 @@ module _ {D : Type 0} (speech : Speech D) where
   ended_due : (S : List JournalRecord → Counts → Type 0) (why : ReadFault) (desk : Service) (kept : Kept) (bodies : List Body) (d e : D) (old new : Reply) → some_recorded kept bodies ≡ true
       → Takes S (let u = speech.heard d (Err why) in unanswered (reading failed_once (submits speech desk kept u.out u.dialog))) old kept e new
       → Takes S (let u = speech.heard d (cond (some_recorded kept bodies) (Err why) (Ok (texts_kept kept bodies))) in
-          unanswered (reading (cond (some_recorded kept bodies) failed_once none_read) (submits speech desk kept u.out u.dialog))) old kept e new
+      unanswered (reading (cond (some_recorded kept bodies) failed_once none_read) (submits speech desk kept u.out u.dialog))) old kept e new
   ended_due S why desk kept bodies d e old new due t =
       subst (λ (b : Bool). Takes S (let u = speech.heard d (cond b (Err why) (Ok (texts_kept kept bodies))) in unanswered (reading (cond b failed_once none_read) (submits speech desk kept u.out u.dialog))) old kept e new)
       (sym due) t
