@@ -1,7 +1,7 @@
 -- What is left from a beginning: as from the first item on, where its store is the one to which the first items led.
 use Rattle.std.proofs.Common.{◌≡◌, ◌∙◌, ℕ, zero, suc, ◌+◌, ◌-◌, ◌≤◌, arith, sym, ap, ap₂, subst, true, List, [], ◌∷◌, ◌++◌, take, drop, length, Result, Ok, Err, IfOk}
 use Rattle.std.specs.List.{AllByRecursion}
-use Rattle.std.proofs.lemmas.List.{length-drop, take-append-le, take-take}
+use Rattle.std.proofs.lemmas.List.{length-drop, take-append-drop, take-append-le, take-take}
 use Rattle.verb_core.specs.declared.conf.House.{House}
 use Rattle.verb_core.specs.declared.item.Item.{Item}
 use Rattle.verb_core.specs.declared.item.Shown.{Shown}
@@ -34,7 +34,8 @@ use Rattle.mail_cycle.specs.Begun.{IsBegun}
 use Rattle.mail_cycle.specs.Comparing.{compared_from, compared_with, reached_from, reworked_by, reworked_from, reworked_with, timeline_by, timeline_from, timeline_with, told_by}
 use Rattle.mail_cycle.specs.Leaving.{IsMade, IsMadeFrom, Leaves, LeavesAt}
 use Rattle.mail_cycle.specs.Reaching.{IsAtPoint, IsReplayed, Passes}
-use Rattle.mail_cycle.specs.Tasks.{Begins, IsBehind, IsTask, Task, asked_task, withdrawal_task}
+use Rattle.mail_cycle.specs.declared.due.Work.TheVariants.{Restored}
+use Rattle.mail_cycle.specs.Tasks.{Begins, IsBehind, IsTask, Task, asked_task, task_by, withdrawal_task}
 use Rattle.mail_cycle.proofs.Cycled.{answers_behind, drop_more, length_shown, run_behind, shown_front}
 use Rattle.mail_cycle.proofs.Left.{length_repaired}
 use Rattle.mail_cycle.proofs.Parted.{alike, all_dropped, at_heard, at_same, first_of as begins_with, heard, later_of, led, many, shown}
@@ -144,6 +145,19 @@ withdrawal_can s at last begun moment left back front timeline = record {
   where
     within : last.position ≤ length s.timeline
     within = omega (arith, back.position, back.placed)
+
+-- it is made of the items behind the point alone, for those through it stay
+pub withdrawal_is : (s : Kept) (at : ℕ) (last : UndoneBehind) (later : List Item) → later ≡ drop last.position (restored_items s last)
+    → take last.position (restored_items s last) ≡ take last.position s.timeline → task_by s at last.position (Restored later last.point) ≡ withdrawal_task s at last
+withdrawal_is s at last later is front =
+    let all : take last.position s.timeline ++ later ≡ restored_items s last =
+    ap₂ (λ (a b : List Item). a ++ b) (sym front) is ∙ take-append-drop last.position (restored_items s last) in
+    ap₂ (λ (items later : List Item). record {
+      kept = s;
+      at = at;
+      repair = record { place = last.position; items = items; acts = 0; before = later; drops = []; point = last.point; kept = length later; unmatched = [] };
+      texts = [];
+    }) all is
 
 module _ (t : Task) (task : IsTask t) (first : Beginning) (begins : Begins t first) where
   -- the items through a beginning are as they were

@@ -1,5 +1,5 @@
 -- What is to be performed again: a repair of a timeline, at a moment.
-use Rattle.std.specs.Prelude.{◌≡◌, ℕ, ◌+◌, ◌≤◌, List, [], drop, take, length, Some, IsTrue}
+use Rattle.std.specs.Prelude.{◌≡◌, ℕ, ◌+◌, ◌≤◌, List, [], ◌++◌, drop, take, length, Some, IsTrue}
 use Rattle.std.specs.List.{AllByRecursion}
 use Rattle.undo_base.specs.declared.limits.TheConstants.{LAST_MOMENT}
 use Rattle.verb_core.specs.declared.item.Item.{Item}
@@ -28,27 +28,27 @@ pub record Task : Type 0 where
   pub repair : Repair
   pub texts : List (ℕ × List ℕ)
 
--- the repair that puts these items in the place of those in force, of which the first ones are the same: no act comes in, and none goes
-abbrev pub restoring : ℕ → ℕ → List Item → Repair
-restoring place point items = record {
+-- the repair that puts these items behind the first ones, which stay: no act comes in, and none goes
+abbrev pub restoring : ℕ → ℕ → List Item → List Item → Repair
+restoring place point front later = record {
   place = place;
-  items = items;
+  items = front ++ later;
   acts = 0;
-  before = drop place items;
+  before = later;
   drops = [];
   point = point;
-  kept = length (drop place items);
+  kept = length later;
   unmatched = [];
 }
 
 -- by what is asked
 abbrev pub repair_by : Kept → ℕ → ℕ → Work → Repair
 repair_by s at place (Asked ask) = repair_of s at ask.now place
-repair_by s at place (Restored items point) = restoring place point items
+repair_by s at place (Restored later point) = restoring place point (take place s.timeline) later
 
 abbrev pub texts_by : Work → List (ℕ × List ℕ)
 texts_by (Asked ask) = ask.now.replaces
-texts_by (Restored items point) = []
+texts_by (Restored later point) = []
 
 abbrev pub task_by : Kept → ℕ → ℕ → Work → Task
 task_by s at place work = record { kept = s; at = at; repair = repair_by s at place work; texts = texts_by work }

@@ -1,5 +1,5 @@
 //! What a cycle begins with.
-ghost use Rattle.std.specs.Prelude.{◌≡◌, ℕ, ◌+◌, ◌≤◌, drop, map, length, IfOk, IfSome, IsTrue};
+ghost use Rattle.std.specs.Prelude.{◌≡◌, ℕ, ◌+◌, ◌≤◌, drop, map, length, take, IfOk, IfSome, IsTrue};
 ghost use Rattle.std.specs.List.{AllByRecursion};
 ghost use Rattle.verb_core.specs.declared.mailbox.BoxId.{BoxId as TheBoxId};
 ghost use Rattle.verb_core.specs.declared.mailbox.Mailbox.{Mailbox as TheMailbox};
@@ -111,6 +111,14 @@ impl<'a> Before<'a> {
         ensures { result ≡ place + inserts }
     {
         self.timeline.split_at(place).0.len() + inserts
+    }
+
+    /// The items through a place.
+    pub(crate) fn through(&self, place: usize) -> &[StoredItem]
+        requires { place ≤ length self.now.timeline }
+        ensures { result.now ≡ take place self.now.timeline }
+    {
+        self.timeline.split_at(place).0
     }
 
     /// The items behind a place.

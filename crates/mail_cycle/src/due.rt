@@ -1,5 +1,5 @@
 //! What is due to be performed again.
-ghost use Rattle.std.specs.Prelude.{◌≡◌, ℕ, ◌+◌, ◌≤◌, drop, length, nat_le, IfErr, IfOk, IsErrOf, IsTrue, OnErr, OnOk, Some};
+ghost use Rattle.std.specs.Prelude.{◌≡◌, ℕ, ◌+◌, ◌++◌, ◌≤◌, length, nat_le, IfErr, IfOk, IsErrOf, IsTrue, OnErr, OnOk, Some};
 ghost use Rattle.verb_core.specs.Items.{IsTimeline};
 ghost use Rattle.repair_desk.specs.Repairs.{are_known, is_among};
 ghost use Rattle.cycle_rules.specs.Asking.{IsRewinds, due_anew};
@@ -21,7 +21,8 @@ use verb_core::House;
 use withdraw::laws::{the_front_stays, unedited_timelines_are_timelines};
 use withdraw::{UndoneBehind, unedit_behind};
 
-/// What is asked: repairs behind a point; or that these items come in the place of those in force, behind the item of a number.
+/// What is asked: repairs behind a point; or that these items come in the place of those in force behind the place of a repair, the
+/// point of which is this number.
 #[derive(Drop)]
 pub enum Work<'a> {
     Asked(&'a CycleAsk),
@@ -55,50 +56,42 @@ fn has_numbers(house: &House, next: u32, acts: usize) -> bool
     wanted < LAST_NUMBER as usize && next as usize + 1 + wanted <= LAST_NUMBER as usize
 }
 
-/// The items behind the first so many.
-fn behind(items: &[StoredItem], count: usize) -> &[StoredItem]
-    ensures { result.now ≡ drop count items.now }
+/// Adds copies of items at the end.
+fn push_copies(alloc: Global, items: &mut StoredItems, more: &[StoredItem]) -> Result<(), NoMemory>
+    ensures { OnOk result (items.new ≡ items.old ++ more.now) }
 {
-    if count <= items.len() {
-        items.split_at(count).1
-    } else {
-        &[]
+    for item in more {
+        items.push(item.copy(alloc)?)?;
     }
+    Ok(())
 }
 
-/// Copies of items.
-fn copies(alloc: Global, items: &[StoredItem]) -> Result<StoredItems, NoMemory>
-    ensures { IfOk result (λ copies. copies ≡ items.now) }
+/// How many items these are, in 32 bits. More than these hold find no memory.
+fn count_of(items: &[StoredItem]) -> Result<u32, NoMemory>
+    ensures { IfOk result (λ count. count ≡ length items.now) }
 {
-    let mut copies = StoredItems::new(alloc);
-    for item in items {
-        copies.push(item.copy(alloc)?)?;
-    }
-    Ok(copies)
-}
-
-/// How many items stand behind a place, in 32 bits. More than these hold find no memory.
-fn count_behind(items: &[StoredItem], place: usize) -> Result<u32, NoMemory>
-    ensures { IfOk result (λ count. count ≡ length (drop place items.now)) }
-{
-    match u32::try_from(behind(items, place).len()) {
+    match u32::try_from(items.len()) {
         Ok(count) => Ok(count),
         Err(_) => Err(NoMemory),
     }
 }
 
-/// The items that come back, but for the first so many.
+/// The items that come back behind those of a front, of which the first so many are not copied.
 fn restored(
     alloc: Global,
-    items: &[StoredItem],
+    front: &[StoredItem],
+    later: &[StoredItem],
     from: usize,
-    place: usize,
 ) -> Result<EditedBehind, NoMemory>
-    ensures { (point : ℕ) → IfOk result (IsBehind (restoring place point items.now) from) }
+    requires { from ≤ length front.now }
+    ensures { (place point : ℕ) → IfOk result (IsBehind (restoring place point front.now later.now) from) }
 {
-    let kept = count_behind(items, place)?;
+    let kept = count_of(later)?;
+    let mut items = StoredItems::new(alloc);
+    push_copies(alloc, &mut items, front.split_at(from).1)?;
+    push_copies(alloc, &mut items, later)?;
     Ok(EditedBehind {
-        items: copies(alloc, behind(items, from))?,
+        items,
         kept,
         unmatched: Numbers::new(alloc),
     })
@@ -134,7 +127,7 @@ impl<'a> Work<'a> {
     {
         match self {
             Work::Asked(_) => before.later(place),
-            Work::Restored(items, _) => behind(items.as_slice(), place),
+            Work::Restored(later, _) => later.as_slice(),
         }
     }
 
@@ -174,7 +167,9 @@ impl<'a> Work<'a> {
     {
         match self {
             Work::Asked(ask) => before.repaired(alloc, ask, at, from, place),
-            Work::Restored(items, _) => restored(alloc, items.as_slice(), from, place),
+            Work::Restored(later, _) => {
+                restored(alloc, before.through(place), later.as_slice(), from)
+            }
         }
     }
 }
@@ -230,12 +225,13 @@ impl<'a> Due<'a> {
                 next: before.next(),
             });
         }
-        let items = unedit_behind(alloc, before.later(0), last, 0)?;
+        let place = last.position as usize;
+        let later = unedit_behind(alloc, before.later(0), last, place)?;
         Ok(Due {
             before,
             at,
-            place: last.position as usize,
-            work: Work::Restored(items, last.point),
+            place,
+            work: Work::Restored(later, last.point),
         })
     }
 
