@@ -16,7 +16,7 @@ mod words;
 pub use answers::broken;
 pub use letters::{notice, notices, user_name, users_told};
 pub use reports::{BrokenItem, Report};
-use undo_base::{Sequence, Text, User};
+use undo_base::{Name, Sequence, Text, User};
 use verb_core::BoxId;
 pub use words::{Reason, Verb};
 
@@ -25,6 +25,9 @@ pub type BrokenList = Sequence<BrokenItem>;
 
 /// Mailboxes with their new stamps, by rising user and name.
 pub type Renewals = Sequence<(BoxId, u32)>;
+
+/// Reports of cycles and withdrawals, each behind the key of its request, by rising key.
+pub type Reports = Sequence<(Name, Report)>;
 
 /// Notices, each with the user whom it goes to.
 pub type Notices = Sequence<(User, Text)>;

@@ -35,7 +35,7 @@ fn places(alloc: Global, what: &JournalRecord) -> Result<Vec<(u32, u32)>, Fail> 
 }
 
 /// The same of the record that bytes spell.
-fn places_in(alloc: Global, bytes: &[u8]) -> Result<Vec<(u32, u32)>, Fail> {
+pub(crate) fn places_in(alloc: Global, bytes: &[u8]) -> Result<Vec<(u32, u32)>, Fail> {
     match decode_record(alloc, bytes) {
         Ok(what) => places(alloc, &what),
         Err(_) => Ok(Vec::new(alloc)),

@@ -85,7 +85,7 @@ fn is_written(alloc: Global, what: &JournalRecord, bytes: &[u8]) -> Result<bool,
 }
 
 /// Whether bytes are read as a record that is written as these bytes.
-fn is_written_again(alloc: Global, bytes: &[u8]) -> Result<bool, Fail> {
+pub(crate) fn is_written_again(alloc: Global, bytes: &[u8]) -> Result<bool, Fail> {
     match decode_record(alloc, bytes) {
         Ok(what) => is_written(alloc, &what, bytes),
         Err(_) => Ok(false),
@@ -111,7 +111,7 @@ fn what_is_read_is_written_so(rt: HostRuntime) -> Result<(), Fail> {
 }
 
 /// The place that is refused: none where the bytes spell a record, and 9999 where there is no memory.
-fn place(alloc: Global, bytes: &[u8]) -> Option<usize> {
+pub(crate) fn place(alloc: Global, bytes: &[u8]) -> Option<usize> {
     match decode_record(alloc, bytes) {
         Ok(_) => None,
         Err(BadBytes::Place { place }) => Some(place),
@@ -130,7 +130,7 @@ fn last_start(fields: &[usize], end: usize) -> usize {
 }
 
 /// The first length at which the front of a payload is not refused at the field that is cut.
-fn misread_front(alloc: Global, payload: &[u8], fields: &[usize]) -> Option<usize> {
+pub(crate) fn misread_front(alloc: Global, payload: &[u8], fields: &[usize]) -> Option<usize> {
     for end in 0..payload.len() {
         if place(alloc, &payload[..end]) != Some(last_start(fields, end)) {
             return Some(end);
@@ -168,7 +168,7 @@ fn changed(alloc: Global, payload: &[u8], index: usize, byte: u8) -> Result<Vec<
     Ok(bytes)
 }
 
-fn place_changed(
+pub(crate) fn place_changed(
     alloc: Global,
     payload: &[u8],
     index: usize,
@@ -178,9 +178,9 @@ fn place_changed(
     Ok(place(alloc, &bytes))
 }
 
-// Each kind of field that is out of its range: a moment, a key, a text and an act; a kind of record, an option, a user, a
-// name, flags and a moment; a scope and the name of a field, an act of no other scope, a list of filters of the whole text alone, and the
-// moments of an upgrade and a withdrawal, with the latter's key; who acted, a deed, how flags change, flags and what was shown; a bool; how a RENAME went.
+// Each kind of field that is out of its range. A moment, a key, a text and an act; a kind of record, an option, a user, a name, flags and a moment. A
+// scope and the name of a field, an act of no other scope, a list of filters of the whole text alone. The moments of an upgrade and a withdrawal,
+// with the latter's key. Who acted, a deed, how flags change, flags and what was shown; a bool; how a RENAME went.
 #[test]
 fn a_field_out_of_its_range_is_refused_at_its_start(rt: HostRuntime) -> Result<(), Fail> {
     let table = [
@@ -190,7 +190,7 @@ fn a_field_out_of_its_range_is_refused_at_its_start(rt: HostRuntime) -> Result<(
         (CYCLE, 35, 1, 35),
         (CYCLE, 45, 0, 45),
         (CYCLE, 45, 8, 45),
-        (SNAPSHOT, 0, 8, 0),
+        (SNAPSHOT, 0, 11, 0),
         (SNAPSHOT, 21, 2, 21),
         (SNAPSHOT, 26, 200, 26),
         (SNAPSHOT, 27, 0, 27),

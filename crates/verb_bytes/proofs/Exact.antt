@@ -7,7 +7,7 @@ use Rattle.std.proofs.lemmas.List.{length-append}
 use Rattle.std.proofs.lemmas.List.Concat.{flat_map-append}
 use Rattle.verb_bytes.specs.Fields.{Field, bytes_of, are_in_range, ◌&◌}
 use Rattle.verb_bytes.specs.Decoding.{IsBytes}
-use Rattle.verb_bytes.specs.Readers.{Reader, field_or, field_at, and_then, ◌>>=◌, done, read1, read2, read3, read4, read5, read6, times, nth_case}
+use Rattle.verb_bytes.specs.Readers.{Reader, field_or, field_at, and_then, ◌>>=◌, done, read1, read2, read3, read4, read5, read6, read7, times, nth_case}
 
 -- the bytes begin with these fields, each in its range
 pub record Takes (bytes : List ℕ) (fields : List Field) (rest : List ℕ) : Type 0 where
@@ -376,6 +376,16 @@ module _ {A B D E G H C : Type 0} {f : Reader A} {F1 : A → List Field} {g : Re
 
   pub only6 : (make : A → B → D → E → G → H → C) (Q : C → List Field → Type 0) → ((a : A) (b : B) (c : D) (d : E) (x : G) (y : H) → Q (make a b c d x y) (F1 a & F2 b & F3 c & F4 d & F5 x & F6 y)) → Only (read6 make f g h i j k) Q
   only6 make Q w = only_step e1 (λ z. read5 (make z) g h i j k) Q (λ a fits. only5 e2 e3 e4 e5 e6 (make a) (λ c fs. Q c (F1 a & fs)) (λ b c d x y. w a b c d x y))
+
+module _ {A B D E G H I C : Type 0} {f : Reader A} {F1 : A → List Field} {g : Reader B} {F2 : B → List Field} {h : Reader D} {F3 : D → List Field} {i : Reader E} {F4 : E → List Field} {j : Reader G} {F5 : G → List Field} {k : Reader H} {F6 : H → List Field} {l : Reader I} {F7 : I → List Field} (e1 : Exact f F1) (e2 : Exact g F2) (e3 : Exact h F3) (e4 : Exact i F4) (e5 : Exact j F5) (e6 : Exact k F6) (e7 : Exact l F7) where
+  pub shrinks7 : (make : A → B → D → E → G → H → I → C) → Shrinks (read7 make f g h i j k l)
+  shrinks7 make = shrinks_step e1 (λ z. read6 (make z) g h i j k l) (λ z fits. shrinks6 e2 e3 e4 e5 e6 e7 (make z))
+
+  pub again7 : (make : A → B → D → E → G → H → I → C) (a : A) (b : B) (c : D) (d : E) (x : G) (y : H) (z : I) → Again (read7 make f g h i j k l) (make a b c d x y z) (F1 a & F2 b & F3 c & F4 d & F5 x & F6 y & F7 z)
+  again7 make a b c d x y z = again_step e1 (λ w. read6 (make w) g h i j k l) (λ w fits. shrinks6 e2 e3 e4 e5 e6 e7 (make w)) a (make a b c d x y z) (F2 b & F3 c & F4 d & F5 x & F6 y & F7 z) (again6 e2 e3 e4 e5 e6 e7 (make a) b c d x y z)
+
+  pub only7 : (make : A → B → D → E → G → H → I → C) (Q : C → List Field → Type 0) → ((a : A) (b : B) (c : D) (d : E) (x : G) (y : H) (z : I) → Q (make a b c d x y z) (F1 a & F2 b & F3 c & F4 d & F5 x & F6 y & F7 z)) → Only (read7 make f g h i j k l) Q
+  only7 make Q w = only_step e1 (λ z. read6 (make z) g h i j k l) Q (λ a fits. only6 e2 e3 e4 e5 e6 e7 (make a) (λ c fs. Q c (F1 a & fs)) (λ b c d x y z. w a b c d x y z))
 
 -- ---- lists
 

@@ -352,13 +352,17 @@ actor_exact = record { again = actor_again; only = actor_only }
 abbrev pub Chosen : {C : Type 0} → ℕ → ℕ → (C → List Field) → ℕ → C → List Field → Type 0
 Chosen least most fields n x fs = byte_field least most n & fs ≡ fields x
 
-pub choice_exact : {C : Type 0} (least most : ℕ) → least ≤ most → (cases : List (Reader C)) → length cases ≡ suc (most - least) → (fields : C → List Field) → ((x : C) → Again (choice_at least most cases) x (fields x)) → EachCase least cases (Chosen least most fields) → Exact (choice_at least most cases) fields
-choice_exact least most le cases all fields again each = record {
+-- there are as many cases as the byte can choose, or more
+pub choice_up_to : {C : Type 0} (least most : ℕ) → least ≤ most → (cases : List (Reader C)) → suc (most - least) ≤ length cases → (fields : C → List Field) → ((x : C) → Again (choice_at least most cases) x (fields x)) → EachCase least cases (Chosen least most fields) → Exact (choice_at least most cases) fields
+choice_up_to least most le cases many fields again each = record {
   again = again;
   only = only_step (byte_exact least most le) (λ n. nth_case (n - least) cases) (λ x fs. fs ≡ fields x) (λ n fits.
       let h = byte_bounds least most n fits in
       only_case cases least (n - least) n (Chosen least most fields) each (omega arith) (omega arith));
 }
+
+pub choice_exact : {C : Type 0} (least most : ℕ) → least ≤ most → (cases : List (Reader C)) → length cases ≡ suc (most - least) → (fields : C → List Field) → ((x : C) → Again (choice_at least most cases) x (fields x)) → EachCase least cases (Chosen least most fields) → Exact (choice_at least most cases) fields
+choice_exact least most le cases all fields again each = choice_up_to least most le cases (omega arith) fields again each
 
 -- a case with the byte that chooses it
 pub again_case : {C : Type 0} (least most : ℕ) → least ≤ most → (cases : List (Reader C)) (Q : ℕ → C → List Field → Type 0) → EachCase least cases Q → (n : ℕ) (c : C) (fs : List Field) → Again (nth_case (n - least) cases) c fs → Again (choice_at least most cases) c (byte_field least most n & fs)

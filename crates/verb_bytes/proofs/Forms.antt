@@ -1,5 +1,6 @@
 -- What the spelling of an item says of what was shown, and of its keys.
-use Rattle.std.proofs.Common.{◌≡◌, ◌≤◌, ◌==◌, ◌∙◌, ℕ, Bool, true, List, length, refl, arith}
+use Rattle.std.proofs.Common.{◌≡◌, ◌≤◌, ◌==◌, ◌∙◌, ◌∷◌, ℕ, Bool, true, false, List, length, refl, arith}
+use Rattle.std.specs.Prelude.{if◌then◌else◌}
 use Rattle.std.proofs.lemmas.Bool.{eq-eqb, eqb-true}
 use Rattle.std.specs.Int.{w32, w64}
 use Rattle.undo_base.specs.declared.keys.Key.{Key}
@@ -9,11 +10,15 @@ use Rattle.verb_core.specs.declared.item.Deed.{Deed}
 use Rattle.verb_core.specs.declared.item.Deed.TheVariants.{Deliver, Append, Fetch, Store, Copy, List as Names, Status, Select, Expunge, Close, Create, Rename, Delete, Act as Acts, Notice}
 use Rattle.verb_core.specs.declared.item.Shown.{Shown}
 use Rattle.verb_core.specs.declared.item.Shown.TheVariants.{Nothing, Seen, Names as Named, Count, Done, Copied, Put, Left, Way as Went, Moved}
+use Rattle.verb_core.specs.Filters.{are_of_body}
 use Rattle.verb_core.specs.Items.{has_form, keys_in}
 use Rattle.verb_bytes.specs.declared.journal.CycleAsk.{CycleAsk}
-use Rattle.verb_bytes.specs.declared.journal.JournalRecord.TheVariants.{Verb, Cycle, Withdraw}
-use Rattle.verb_bytes.specs.Fields.{are_in_range, byte_field, record_kind, u32_field, moment_field, actor_field, name_field, only_if, ◌&◌}
-use Rattle.verb_bytes.specs.Spelling.{HasSpelling, ask_fields, deed_fields, item_fields, key_list, shown_fields, shown_fields_within, shown_kind}
+use Rattle.verb_bytes.specs.declared.journal.JournalRecord.{JournalRecord}
+use Rattle.verb_bytes.specs.declared.journal.JournalRecord.TheVariants.{Format, Verb, Operator, Cycle, Snapshot, Upgrade, Withdraw, Base, Text, Kept}
+use Rattle.verb_bytes.specs.declared.kinds.TheConstants.{LAST_DEED, LAST_KEPT_DEED}
+use Rattle.verb_bytes.specs.declared.write.TheConstants.{MOST_BODY}
+use Rattle.verb_bytes.specs.Fields.{Field, are_in_range, bytes_of, byte_field, most_of_four, record_kind, u32_field, moment_field, actor_field, name_field, only_if, ◌&◌}
+use Rattle.verb_bytes.specs.Spelling.{HasSpelling, act_fields, ask_fields, base_fields, deed_fields, deed_fields_within, filter_fields, house_fields, item_fields, kept_deed_fields, kept_fields, key_list, record_bytes, record_code, scoped_fields, shown_fields, shown_fields_within, shown_kind, store_fields, text_record_fields}
 use Rattle.verb_bytes.proofs.Exact.{and_true}
 use Rattle.verb_bytes.proofs.FieldLaws.{byte_bounds}
 use Rattle.verb_bytes.proofs.Puts.{first_in_range, others_in_range, number_in_range}
@@ -71,14 +76,14 @@ form_is _ _ = refl
 list_is_few : (ks : List Key) → are_in_range (key_list ks) ≡ true → length ks ≤ MOST_KEYS
 list_is_few ks fits = number_in_range w32 MOST_KEYS (length ks) (first_in_range _ _ fits)
 
-few_keys : (d : Deed) → are_in_range (deed_fields d) ≡ true → length (keys_in d) ≤ MOST_KEYS
-few_keys (Fetch mailbox ks sets_seen shows_body) fits = list_is_few ks (first_in_range _ _ (others_in_range _ _ (others_in_range _ _ fits)))
-few_keys (Store mailbox ks how given) fits = list_is_few ks (first_in_range _ _ (others_in_range _ _ (others_in_range _ _ fits)))
-few_keys (Copy mailbox ks target) fits = list_is_few ks (first_in_range _ _ (others_in_range _ _ (others_in_range _ _ fits)))
-few_keys (Expunge mailbox ks) fits = list_is_few ks (others_in_range _ _ (others_in_range _ _ fits))
-few_keys (Close mailbox ks) fits = list_is_few ks (others_in_range _ _ (others_in_range _ _ fits))
-few_keys (Delete mailbox ks) fits = list_is_few ks (others_in_range _ _ (others_in_range _ _ fits))
-few_keys _ fits = omega arith
+few_keys : (last most : ℕ) (d : Deed) → are_in_range (deed_fields_within last most d) ≡ true → length (keys_in d) ≤ MOST_KEYS
+few_keys last most (Fetch mailbox ks sets_seen shows_body) fits = list_is_few ks (first_in_range _ _ (others_in_range _ _ (others_in_range _ _ fits)))
+few_keys last most (Store mailbox ks how given) fits = list_is_few ks (first_in_range _ _ (others_in_range _ _ (others_in_range _ _ fits)))
+few_keys last most (Copy mailbox ks target) fits = list_is_few ks (first_in_range _ _ (others_in_range _ _ (others_in_range _ _ fits)))
+few_keys last most (Expunge mailbox ks) fits = list_is_few ks (others_in_range _ _ (others_in_range _ _ fits))
+few_keys last most (Close mailbox ks) fits = list_is_few ks (others_in_range _ _ (others_in_range _ _ fits))
+few_keys last most (Delete mailbox ks) fits = list_is_few ks (others_in_range _ _ (others_in_range _ _ fits))
+few_keys last most _ fits = omega arith
 
 -- ---- items
 
@@ -98,7 +103,7 @@ pub is_formed : (i : Item) → HasSpelling (Verb i) → (has_form i.deed i.shown
 is_formed i fits =
     let shown = first_in_range (shown_fields (shown_kind i.deed) i.shown) (only_if (i.rev == 0)) (from_shown i fits) in (
       form_is i.deed i.shown ∙ eq-eqb (shown_kind i.deed) (kind_of i.shown) (kind_is MOST_KEYS (shown_kind i.deed) i.shown shown),
-      few_keys i.deed (deed_ranged i fits),
+      few_keys LAST_DEED MOST_BODY i.deed (deed_ranged i fits),
     )
 
 only_true : (t : Bool) → are_in_range (only_if t) ≡ true → t ≡ true
@@ -108,6 +113,39 @@ only_true t h = and_true t h
 -- a recorded item has no rev
 pub no_rev : (i : Item) → HasSpelling (Verb i) → i.rev ≡ 0
 no_rev i fits = eqb-true i.rev 0 (only_true (i.rev == 0) (others_in_range (shown_fields (shown_kind i.deed) i.shown) (only_if (i.rev == 0)) (from_shown i fits)))
+
+-- the same of an item that is kept
+pub kept_is_formed : (i : Item) → HasSpelling (Kept i) → (has_form i.deed i.shown ≡ true) × (length (keys_in i.deed) ≤ MOST_KEYS)
+kept_is_formed i fits =
+    let shown = shown_fields_within most_of_four (shown_kind i.deed) i.shown in
+    let fields = kept_deed_fields i.deed & shown in
+    let from_rev = others_in_range (actor_field i.by) (u32_field i.rev & fields) (others_in_range (moment_field i.at) (actor_field i.by & u32_field i.rev & fields) (others_in_range (u32_field i.number) (moment_field i.at & actor_field i.by & u32_field i.rev & fields) (others_in_range (record_kind 10) (kept_fields i) fits))) in
+    let from_deed = others_in_range (u32_field i.rev) fields from_rev in (
+      form_is i.deed i.shown ∙ eq-eqb (shown_kind i.deed) (kind_of i.shown) (kind_is most_of_four (shown_kind i.deed) i.shown (others_in_range (kept_deed_fields i.deed) shown from_deed)),
+      few_keys LAST_KEPT_DEED most_of_four i.deed (first_in_range (kept_deed_fields i.deed) shown from_deed),
+    )
+
+-- ---- the first byte
+
+behind_kind : (kind : ℕ) (fields : List Field) → (rest : List ℕ) × (bytes_of (record_kind kind & fields) ≡ kind ∷ rest)
+unfolding bytes_of byte_field
+behind_kind kind fields = (bytes_of fields, refl)
+
+pub begins_with_kind : (what : JournalRecord) → (rest : List ℕ) × (record_bytes what ≡ record_code what ∷ rest)
+begins_with_kind (Format h conf) = behind_kind 0 (house_fields h conf)
+begins_with_kind (Verb i) = behind_kind 1 (item_fields i)
+begins_with_kind (Operator number at a) = behind_kind 2 (u32_field number & moment_field at & act_fields a)
+begins_with_kind (Cycle number at ask) = behind_kind 3 (u32_field number & moment_field at & ask_fields ask)
+begins_with_kind (Snapshot items conf rows) = by_scopes (are_of_body conf.filters)
+  where
+    by_scopes : (t : Bool) → (rest : List ℕ) × (bytes_of (if t then record_kind 4 & store_fields filter_fields items conf rows else record_kind 6 & store_fields (scoped_fields 0) items conf rows) ≡ (if t then 4 else 6) ∷ rest)
+    by_scopes true = behind_kind 4 (store_fields filter_fields items conf rows)
+    by_scopes false = behind_kind 6 (store_fields (scoped_fields 0) items conf rows)
+begins_with_kind (Upgrade at) = behind_kind 5 (moment_field at)
+begins_with_kind (Withdraw number at key of) = behind_kind 7 (u32_field number & moment_field at & name_field key & u32_field of)
+begins_with_kind (Base next deep conf rows stamps reports) = behind_kind 8 (base_fields next deep conf rows stamps reports)
+begins_with_kind (Text body text) = behind_kind 9 (text_record_fields body text)
+begins_with_kind (Kept i) = behind_kind 10 (kept_fields i)
 
 -- ---- cycles and withdrawals
 

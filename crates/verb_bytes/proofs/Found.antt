@@ -5,18 +5,19 @@ use Rattle.std.specs.List.{AllZip, flat_map}
 use Rattle.std.specs.Int.{w32}
 use Rattle.std.specs.Option.{option_to_list}
 use Rattle.std.proofs.lemmas.List.{take_at, drop_at}
+use Rattle.verb_core.specs.declared.mailbox.Body.{Body}
 use Rattle.verb_core.specs.declared.item.Act.{Act}
 use Rattle.verb_core.specs.declared.item.Deed.TheVariants.{Act as Acts}
 use Rattle.verb_core.specs.declared.item.Item.{Item}
 use Rattle.verb_core.specs.Items.{text_in}
 use Rattle.verb_bytes.specs.declared.journal.CycleAsk.{CycleAsk}
-use Rattle.verb_bytes.specs.declared.journal.JournalRecord.TheVariants.{Verb, Operator, Cycle}
+use Rattle.verb_bytes.specs.declared.journal.JournalRecord.TheVariants.{Verb, Operator, Cycle, Text, Kept}
 use Rattle.verb_bytes.specs.declared.places.TextPlace.{TextPlace}
 use Rattle.verb_bytes.specs.Fields.{◌&◌, number_field, name_field, u32_field, any_list_fields, most_of_four}
 use Rattle.verb_bytes.specs.Places.{act_place, before_ask, first_from, given_places, given_texts, placed, places_along, replace_place, replaced_places, replaced_texts, size_of, text_places_of, IsTextAt, LiesThere}
-use Rattle.verb_bytes.specs.Spelling.{HasSpelling, act_fields, record_bytes, replace_fields}
+use Rattle.verb_bytes.specs.Spelling.{act_fields, record_bytes, replace_fields}
 use Rattle.verb_bytes.proofs.Sizes.{before_ask_is, size_both, size_numbers, size_u32}
-use Rattle.verb_bytes.proofs.TextsLie.{given_lie, operator_lies, replaced_lie, verb_lies}
+use Rattle.verb_bytes.proofs.TextsLie.{body_lies, given_lie, kept_lies, operator_lies, replaced_lie, verb_lies}
 
 -- ---- the one text of an item or an act
 
@@ -33,19 +34,37 @@ one_place_is bytes (Some p) None h = absurd h
 one_place_is bytes (Some p) (Some x) h = ap (λ (n : ℕ). record { from = p.from; length = n } ∷ []) h.0.length_is
 
 -- a number that four bytes can say is the place itself
-pub item_text_lies : (i : Item) (from : ℕ) (text : List ℕ) → from ≡ min (first_from (text_places_of (Verb i))) most_of_four → HasSpelling (Verb i) → length (record_bytes (Verb i)) ≤ most_of_four → text_in i.deed ≡ Some text → IsTextAt (record_bytes (Verb i)) from text
-item_text_lies i from text is fits short e =
-    let lies : IsTextAt (record_bytes (Verb i)) (first_from (text_places_of (Verb i))) text = first_lies (record_bytes (Verb i)) _ (text_in i.deed) text (verb_lies i fits) e in
-    subst (λ (n : ℕ). IsTextAt (record_bytes (Verb i)) n text) (omega (arith, lies.within, short, is)) lies
+text_lies : (bytes : List ℕ) (o : Option TextPlace) (t : Option (List ℕ)) (from : ℕ) (text : List ℕ) → AllZip (LiesThere bytes) (option_to_list o) (option_to_list t) → from ≡ min (first_from (option_to_list o)) most_of_four → length bytes ≤ most_of_four → t ≡ Some text → IsTextAt bytes from text
+text_lies bytes o t from text zip is short e =
+    let lies : IsTextAt bytes (first_from (option_to_list o)) text = first_lies bytes o t text zip e in
+    subst (λ (n : ℕ). IsTextAt bytes n text) (omega (arith, lies.within, short, is)) lies
+
+pub item_text_lies : (i : Item) (from : ℕ) (text : List ℕ) → from ≡ min (first_from (text_places_of (Verb i))) most_of_four → length (record_bytes (Verb i)) ≤ most_of_four → text_in i.deed ≡ Some text → IsTextAt (record_bytes (Verb i)) from text
+item_text_lies i from text is short e = text_lies (record_bytes (Verb i)) _ (text_in i.deed) from text (verb_lies i) is short e
+
+pub kept_text_lies : (i : Item) (from : ℕ) (text : List ℕ) → from ≡ min (first_from (text_places_of (Kept i))) most_of_four → length (record_bytes (Kept i)) ≤ most_of_four → text_in i.deed ≡ Some text → IsTextAt (record_bytes (Kept i)) from text
+kept_text_lies i from text is short e = text_lies (record_bytes (Kept i)) _ (text_in i.deed) from text (kept_lies i) is short e
+
+pub body_text_lies : (body : Body) (text : List ℕ) (from : ℕ) → from ≡ first_from (text_places_of (Text body text)) → IsTextAt (record_bytes (Text body text)) from text
+body_text_lies body text from is = subst (λ (n : ℕ). IsTextAt (record_bytes (Text body text)) n text) (sym is) (body_lies body text).0.lies
 
 pub act_text_lies : (number at : ℕ) (a : Act) (from : ℕ) (text : List ℕ) → from ≡ first_from (text_places_of (Operator number at a)) → text_in (Acts a) ≡ Some text → IsTextAt (record_bytes (Operator number at a)) from text
 act_text_lies number at a from text is e =
     subst (λ (n : ℕ). IsTextAt (record_bytes (Operator number at a)) n text) (sym is) (first_lies (record_bytes (Operator number at a)) _ (text_in (Acts a)) text (operator_lies number at a) e)
 
-pub item_place_found : (i : Item) (from : ℕ) (places : List TextPlace) → from ≡ min (first_from (text_places_of (Verb i))) most_of_four → from < most_of_four → HasSpelling (Verb i) → places ≡ option_to_list (option_map (placed from) (text_in i.deed)) → places ≡ text_places_of (Verb i)
-item_place_found i from places is small fits e =
-    let same : from ≡ first_from (text_places_of (Verb i)) = omega (arith, is, small) in
-    e ∙ ap (λ (n : ℕ). option_to_list (option_map (placed n) (text_in i.deed))) same ∙ sym (one_place_is (record_bytes (Verb i)) _ (text_in i.deed) (verb_lies i fits))
+place_found : (bytes : List ℕ) (o : Option TextPlace) (t : Option (List ℕ)) (from : ℕ) (places : List TextPlace) → AllZip (LiesThere bytes) (option_to_list o) (option_to_list t) → from ≡ min (first_from (option_to_list o)) most_of_four → from < most_of_four → places ≡ option_to_list (option_map (placed from) t) → places ≡ option_to_list o
+place_found bytes o t from places zip is small e =
+    let same : from ≡ first_from (option_to_list o) = omega (arith, is, small) in
+    e ∙ ap (λ (n : ℕ). option_to_list (option_map (placed n) t)) same ∙ sym (one_place_is bytes o t zip)
+
+pub item_place_found : (i : Item) (from : ℕ) (places : List TextPlace) → from ≡ min (first_from (text_places_of (Verb i))) most_of_four → from < most_of_four → places ≡ option_to_list (option_map (placed from) (text_in i.deed)) → places ≡ text_places_of (Verb i)
+item_place_found i from places is small e = place_found (record_bytes (Verb i)) _ (text_in i.deed) from places (verb_lies i) is small e
+
+pub kept_place_found : (i : Item) (from : ℕ) (places : List TextPlace) → from ≡ min (first_from (text_places_of (Kept i))) most_of_four → from < most_of_four → places ≡ option_to_list (option_map (placed from) (text_in i.deed)) → places ≡ text_places_of (Kept i)
+kept_place_found i from places is small e = place_found (record_bytes (Kept i)) _ (text_in i.deed) from places (kept_lies i) is small e
+
+pub body_place_found : (body : Body) (text : List ℕ) (from : ℕ) (places : List TextPlace) → from ≡ first_from (text_places_of (Text body text)) → places ≡ placed from text ∷ [] → places ≡ text_places_of (Text body text)
+body_place_found body text from places is e = e ∙ ap (λ (n : ℕ). placed n text ∷ []) is
 
 pub act_place_found : (number at : ℕ) (a : Act) (from : ℕ) (places : List TextPlace) → from ≡ first_from (text_places_of (Operator number at a)) → places ≡ option_to_list (option_map (placed from) (text_in (Acts a))) → places ≡ text_places_of (Operator number at a)
 act_place_found number at a from places is e =

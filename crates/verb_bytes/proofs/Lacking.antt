@@ -1,24 +1,24 @@
 -- Bytes whose list of filters is refused as a whole, and all others, which are read as if no list was.
-use Rattle.std.proofs.Common.{◌≡◌, ℕ, zero, suc, ◌-◌, ◌+◌, ◌≤◌, Bool, true, false, not, List, [], ◌∷◌, ◌++◌, length, Result, Ok, Err, refl, sym, ap, subst, ◌∙◌, append_assoc, arith, inl, inr, ◌⊎◌}
+use Rattle.std.proofs.Common.{◌≡◌, ℕ, zero, suc, ◌-◌, ◌+◌, Bool, true, false, not, List, ◌++◌, length, Result, Ok, Err, refl, sym, ap, subst, ◌∙◌, append_assoc, arith, inl, inr, ◌⊎◌}
 use Rattle.std.specs.Prelude.{if◌then◌else◌}
 use Rattle.std.proofs.lemmas.List.{length-append}
 use Rattle.verb_core.specs.declared.conf.Alias.{Alias}
 use Rattle.verb_core.specs.declared.conf.Filter.{Filter}
 use Rattle.verb_core.specs.Filters.{are_of_body}
-use Rattle.verb_core.specs.declared.conf.Conf.{Conf}
 use Rattle.verb_core.specs.declared.mailbox.BoxId.{BoxId}
 use Rattle.verb_core.specs.declared.mailbox.Mailbox.{Mailbox}
 use Rattle.verb_bytes.specs.declared.journal.JournalRecord.{JournalRecord}
-use Rattle.verb_bytes.specs.declared.journal.JournalRecord.TheVariants.{Format, Verb, Operator, Cycle, Snapshot, Upgrade, Withdraw}
+use Rattle.verb_bytes.specs.declared.journal.JournalRecord.TheVariants.{Format, Verb, Operator, Cycle, Snapshot, Upgrade, Withdraw, Base, Text, Kept}
 use Rattle.verb_bytes.specs.declared.kinds.TheConstants.{LAST_RECORD}
 use Rattle.verb_bytes.specs.Fields.{Field, bytes_of, are_in_range, ◌&◌, any_list_fields, record_kind, u32_field}
 use Rattle.verb_bytes.specs.Spelling.{aliases_fields, record_fields, row_fields}
 use Rattle.verb_bytes.specs.Decoding.{IsBytes, LacksScopes, before_filters}
 use Rattle.verb_bytes.specs.Readers.{Reader, and_then, ◌>>=◌, done, read1, read2, read3, nth_case, kept_if, record_kind_at, u32_at}
 use Rattle.verb_bytes.specs.Reading.{aliases_at, any_list_at, row_at, scope_at, scoped_at, scoped_filters_at, snapshot_at, snapshot_of, record_cases, record_at}
-use Rattle.verb_bytes.proofs.Exact.{Again, Only, left_of, bytes_joined, in_range_parts, only_weaker, takes_joined, Takes}
+use Rattle.verb_bytes.proofs.Exact.{Again, left_of, bytes_joined, in_range_parts, only_weaker, takes_joined, Takes}
 use Rattle.verb_bytes.proofs.FieldLaws.{byte_exact}
-use Rattle.verb_bytes.proofs.RecordLaws.{again_with, aliases_exact, any_scopes_at, cases_with, has_scopes, record_with, rows_exact, scoped_snapshot_only, some_other, u32_exact, with_scopes}
+use Rattle.verb_bytes.proofs.PartLaws.{aliases_exact, u32_exact}
+use Rattle.verb_bytes.proofs.RecordLaws.{again_with, any_scopes_at, cases_with, has_scopes, record_with, rows_exact, scoped_snapshot_only, some_other, with_scopes}
 use Rattle.verb_bytes.proofs.ScopeLaws.{scoped_list, scoped_list_exact}
 
 -- ---- a snapshot of the kind with scopes, up to its filters
@@ -96,6 +96,9 @@ record_reads x rest fits = by_scopes x (has_scopes x) refl fits
     scoped (Cycle a b c) h fits = absurd cc
     scoped (Upgrade a) h fits = absurd cc
     scoped (Withdraw a b c d) h fits = absurd cc
+    scoped (Base a b c d x y) h fits = absurd cc
+    scoped (Text a b) h fits = absurd cc
+    scoped (Kept a) h fits = absurd cc
 
     by_scopes : (x : JournalRecord) (t : Bool) → has_scopes x ≡ t → are_in_range (record_fields x) ≡ true → record_at (bytes_of (record_fields x) ++ rest) ≡ Ok (x, rest)
     by_scopes x true h fits = scoped x h fits

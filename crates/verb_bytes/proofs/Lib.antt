@@ -1,6 +1,8 @@
 pub mod Exact
 pub mod FieldLaws
 pub mod ScopeLaws
+pub mod PartLaws
+pub mod ReportLaws
 pub mod RecordLaws
 pub mod Lacking
 pub mod Refusals

@@ -1,194 +1,99 @@
 -- Each record is read from its fields, and only from these.
-use Rattle.std.proofs.Common.{◌≡◌, ℕ, zero, suc, ◌-◌, ◌<◌, ◌≤◌, Bool, true, false, ◌&&◌, not, List, [], ◌∷◌, ◌++◌, length, Option, Ok, refl, sym, ap, subst, ◌∙◌, arith, inl, inr, lit<}
+use Rattle.std.proofs.Common.{◌≡◌, ℕ, suc, ◌-◌, ◌<◌, ◌≤◌, Bool, true, false, not, List, [], ◌∷◌, ◌++◌, length, Option, Ok, refl, sym, ap, subst, ◌∙◌, arith, lit<}
 use Rattle.std.specs.Prelude.{◌==◌, if◌then◌else◌}
 use Rattle.std.specs.List.{flat_map}
-use Rattle.std.specs.Int.{w32, w64}
-use Rattle.std.proofs.lemmas.Bool.{cases_lt, and_parts, eqb-true}
+use Rattle.std.specs.Int.{w32}
+use Rattle.std.proofs.lemmas.Bool.{eqb-true}
 use Rattle.std.proofs.lemmas.List.{append-nil}
 use Rattle.undo_base.specs.declared.keys.User.{User}
-use Rattle.undo_base.specs.declared.keys.Flags.{Flags}
-use Rattle.undo_base.specs.declared.asks.How.{How}
-use Rattle.undo_base.specs.declared.asks.How.TheVariants.{Replace, Add, Take}
-use Rattle.undo_base.specs.declared.limits.TheConstants.{LAST_MOMENT, MOST_KEYS, MOST_RECIPIENTS, MOST_USERS}
+use Rattle.undo_base.specs.declared.limits.TheConstants.{MOST_KEYS, MOST_RECIPIENTS, MOST_USERS}
 use Rattle.verb_core.specs.declared.conf.Alias.{Alias}
 use Rattle.verb_core.specs.declared.conf.Filter.{Filter}
 use Rattle.verb_core.specs.declared.conf.House.{House}
 use Rattle.verb_core.specs.declared.conf.Conf.{Conf}
+use Rattle.verb_core.specs.declared.mailbox.Body.{Body}
 use Rattle.verb_core.specs.declared.mailbox.BoxId.{BoxId}
 use Rattle.verb_core.specs.declared.mailbox.Mailbox.{Mailbox}
 use Rattle.verb_core.specs.declared.item.Item.{Item}
-use Rattle.verb_core.specs.declared.item.Way.{Way}
-use Rattle.verb_core.specs.declared.item.Way.TheVariants.{Plain, NoSource, Merged}
 use Rattle.verb_core.specs.declared.item.Act.{Act}
 use Rattle.verb_core.specs.declared.item.Act.TheVariants.{SetAlias, DropAlias, SetFilter, DropFilter, Remove, Give}
 use Rattle.verb_core.specs.declared.item.Deed.{Deed}
 use Rattle.verb_core.specs.declared.item.Deed.TheVariants.{Deliver, Append, Fetch, Store, Copy, List as Names, Status, Select, Expunge, Close, Create, Rename, Delete, Act as Acts, Notice}
 use Rattle.verb_core.specs.declared.item.Shown.{Shown}
 use Rattle.verb_core.specs.declared.item.Shown.TheVariants.{Nothing, Seen, Names as Named, Count, Done, Copied, Put, Left, Way as Went, Moved}
+use Rattle.paradox.specs.declared.reports.Report.{Report}
 use Rattle.verb_core.specs.Names.{is_empty}
 use Rattle.verb_core.specs.Filters.{is_of_body, are_of_body}
-use Rattle.verb_bytes.specs.declared.kinds.TheConstants.{LAST_RECORD, LAST_ACT, LAST_DEED, LAST_SHOWN}
-use Rattle.verb_bytes.specs.declared.write.TheConstants.{ALL_FLAGS, LAST_USER, MOST_BODY}
+use Rattle.verb_bytes.specs.declared.kinds.TheConstants.{LAST_RECORD, LAST_ACT, LAST_DEED, LAST_SHOWN, LAST_KEPT_DEED}
+use Rattle.verb_bytes.specs.declared.write.TheConstants.{MOST_BODY}
 use Rattle.verb_bytes.specs.declared.journal.JournalRecord.{JournalRecord}
-use Rattle.verb_bytes.specs.declared.journal.JournalRecord.TheVariants.{Format, Verb, Operator, Cycle, Snapshot, Upgrade, Withdraw}
-use Rattle.verb_bytes.specs.Fields.{Field, bytes_of, are_in_range, ◌&◌, only_if, byte_field, number_field, name_field, list_fields, bool_field, flags_field, flags_code, u32_field, u64_field, moment_field, any_text_field, body_field, user_field, any_list_fields, most_of_four, most_of_eight, record_kind, act_kind, deed_kind}
-use Rattle.verb_bytes.specs.Spelling.{key_list, account_fields, alias_fields, aliases_fields, filter_fields, scope_fields, scoped_fields, entry_fields, row_fields, how_field, deed_fields, deed_fields_within, sight_fields, way_field, shown_kind, shown_fields, shown_fields_within, item_fields, act_fields, replace_fields, ask_fields, house_fields, record_fields}
-use Rattle.verb_bytes.specs.Readers.{Reader, ◌>>=◌, done, read1, read2, read3, read4, read5, list_at, nth_case, choice_at, byte_at, bool_at, name_at, actor_at, u32_at, moment_at, flags_of, flags_at, user_of, user_at}
-use Rattle.verb_bytes.specs.Reading.{any_list_at, any_text_at, body_at, u64_at, keys_at, account_of, account_at, alias_of, alias_at, aliases_at, filter_at, scope_at, scoped_at, scoped_filters_at, entry_of, entry_at, row_of, row_at, how_at, deed_cases, deed_at, sight_of, sight_at, way_at, shown_cases, shown_at, item_of, item_at, act_cases, act_at, replace_of, replace_at, ask_of, cycle_ask_at, format_of, format_at, snapshot_of, snapshot_at, record_cases, record_at}
-use Rattle.verb_bytes.proofs.Exact.{Takes, Shrinks, Again, Only, Exact, and_true, in_range_parts, no_front, ok_is, shrinks_done, shrinks_step, shrinks1, shrinks2, shrinks3, shrinks4, shrinks5, again_step, again_done, only_step, only_behind, only_weaker, only_done, again1, only1, again2, only2, again3, only3, again4, only4, again5, only5, again6, only6, EachCase, only_case, case_shrinks}
-use Rattle.verb_bytes.proofs.FieldLaws.{Chosen, again_case, byte_exact, byte_bounds, wide32, wide64, number_exact, name_exact, text_exact, key_exact, actor_exact, again_alone, choice_exact, option_exact, counted, any_counted}
-use Rattle.verb_bytes.proofs.ScopeLaws.{never, only_fit1, of_body_fields, filter_exact, other_filter_exact, other_only, body_filter_is, body_filter_only, body_filters_are, body_filters_only, scoped_list, scoped_list_exact, scoped_filters_only}
+use Rattle.verb_bytes.specs.declared.journal.JournalRecord.TheVariants.{Format, Verb, Operator, Cycle, Snapshot, Upgrade, Withdraw, Base, Text, Kept}
+use Rattle.verb_bytes.specs.Fields.{Field, bytes_of, are_in_range, ◌&◌, only_if, byte_field, number_field, name_field, list_fields, u32_field, any_list_fields, most_of_four, record_kind, act_kind, deed_kind_to}
+use Rattle.verb_bytes.specs.Spelling.{account_fields, aliases_fields, filter_fields, scope_fields, scoped_fields, row_fields, deed_fields, deed_fields_within, shown_kind, shown_fields, shown_fields_within, item_fields, act_fields, act_fields_within, base_fields, kept_deed_fields, kept_fields, text_record_fields, ask_fields, house_fields, record_fields}
+use Rattle.verb_bytes.specs.Readers.{Reader, ◌>>=◌, done, read1, read2, read3, read4, read5, list_at, nth_case, choice_at, name_at, actor_at, u32_at, moment_at, user_at}
+use Rattle.verb_bytes.specs.Reading.{any_list_at, account_at, aliases_at, filter_at, scope_at, scoped_at, scoped_filters_at, row_at, deed_cases, deed_at, shown_cases, shown_at, item_of, item_at, act_cases, act_at, act_within_at, base_at, base_of, kept_at, text_of_body, text_record_at, ask_of, cycle_ask_at, format_of, format_at, snapshot_of, snapshot_at, record_cases, record_at}
+use Rattle.verb_bytes.proofs.Exact.{Takes, Shrinks, Again, Only, Exact, and_true, in_range_parts, no_front, ok_is, shrinks_done, shrinks_step, shrinks1, shrinks2, shrinks3, shrinks4, shrinks5, again_step, again_done, only_step, only_behind, only_weaker, only_done, again1, only1, again2, only2, again3, only3, again4, only4, again5, only5, again7, only7, EachCase, only_case, case_shrinks}
+use Rattle.verb_bytes.proofs.FieldLaws.{Chosen, again_case, byte_exact, byte_bounds, name_exact, text_exact, key_exact, actor_exact, choice_exact, choice_up_to, option_exact, counted, any_counted}
+use Rattle.verb_bytes.proofs.ScopeLaws.{only_fit1, of_body_fields, filter_exact, other_filter_exact, other_only, body_filter_is, body_filter_only, body_filters_are, body_filters_only, scoped_list, scoped_list_exact, scoped_filters_only}
+use Rattle.verb_bytes.proofs.PartLaws.{u32_exact, moment_exact, any_text_exact, keys_exact, bool_exact, how_exact, way_exact, flags_exact, user_exact, account_exact, aliases_exact, row_exact, sight_exact, replace_exact}
+use Rattle.verb_bytes.proofs.ReportLaws.{reports_exact, stamps_exact}
 
--- ---- numbers, texts and lists of a range
+-- ---- acts
 
-pub u32_exact : Exact u32_at u32_field
-u32_exact = number_exact w32 4294967296 most_of_four wide32 (lit< tt)
+-- a filter of the whole text is set by one act, and one of another scope by another
+set_of_body : (f : Filter) → are_in_range (of_body_fields f) ≡ true → act_kind 3 & of_body_fields f ≡ act_fields (SetFilter f)
+set_of_body f fits =
+    let body : is_of_body f.scope ≡ true = body_filter_only f fits in
+    ap (λ (fs : List Field). act_kind 3 & fs) (body_filter_is f body) ∙ ap (λ (t : Bool). if t then act_kind 3 & filter_fields f else act_kind 7 & scoped_fields 1 f) (sym body)
 
-u64_exact : Exact u64_at u64_field
-u64_exact = number_exact w64 18446744073709551616 most_of_eight wide64 (lit< tt)
+set_of_other : (f : Filter) → are_in_range (scoped_fields 1 f) ≡ true → act_kind 7 & scoped_fields 1 f ≡ act_fields (SetFilter f)
+set_of_other f fits =
+    let other : is_of_body f.scope ≡ false = other_only f.scope (in_range_parts (filter_fields f) (scope_fields 1 f.scope) fits).1 in
+    ap (λ (t : Bool). if t then act_kind 3 & filter_fields f else act_kind 7 & scoped_fields 1 f) (sym other)
 
-moment_exact : Exact moment_at moment_field
-moment_exact = number_exact w64 18446744073709551616 LAST_MOMENT wide64 (lit< tt)
+act_each : (most : ℕ) → most < 4294967296 → EachCase 1 (act_cases most) (Chosen 1 LAST_ACT (act_fields_within most))
+act_each most lt = (
+  only2 name_exact (any_counted user_exact) SetAlias _ (λ a b. refl),
+  (
+    only1 name_exact DropAlias _ (λ a. refl),
+    (
+      only_fit1 filter_exact SetFilter _ set_of_body,
+      (
+        only1 name_exact DropFilter _ (λ a. refl),
+        (
+          only3 user_exact name_exact key_exact Remove _ (λ a b c. refl),
+          (
+            only3 user_exact name_exact (text_exact most lt) Give _ (λ a b c. refl),
+            (only_fit1 other_filter_exact SetFilter _ set_of_other, tt),
+          ),
+        ),
+      ),
+    ),
+  ),
+)
 
-any_text_exact : Exact any_text_at any_text_field
-any_text_exact = text_exact most_of_four (lit< tt)
+act_case : (most : ℕ) → most < 4294967296 → (n : ℕ) (x : Act) (fs : List Field) → Again (nth_case (n - 1) (act_cases most)) x fs → Again (act_within_at most) x (act_kind n & fs)
+act_case most lt n x fs h = again_case 1 LAST_ACT (omega arith) (act_cases most) (Chosen 1 LAST_ACT (act_fields_within most)) (act_each most lt) n x fs h
 
-body_exact : Exact body_at body_field
-body_exact = text_exact MOST_BODY (lit< tt)
+act_again : (most : ℕ) → most < 4294967296 → (x : Act) → Again (act_within_at most) x (act_fields_within most x)
+act_again most lt (SetAlias a b) = act_case most lt 1 (SetAlias a b) _ (again2 name_exact (any_counted user_exact) SetAlias a b)
+act_again most lt (DropAlias a) = act_case most lt 2 (DropAlias a) _ (again1 name_exact DropAlias a)
+act_again most lt (SetFilter f) = by_scope (is_of_body f.scope) refl
+  where
+    by_scope : (t : Bool) → is_of_body f.scope ≡ t → Again (act_within_at most) (SetFilter f) (if t then act_kind 3 & filter_fields f else act_kind 7 & scoped_fields 1 f)
+    by_scope true e = subst (λ (fs : List Field). Again (act_within_at most) (SetFilter f) (act_kind 3 & fs)) (body_filter_is f e) (act_case most lt 3 (SetFilter f) _ (again1 filter_exact SetFilter f))
+    by_scope false e = act_case most lt 7 (SetFilter f) _ (again1 other_filter_exact SetFilter f)
+act_again most lt (DropFilter a) = act_case most lt 4 (DropFilter a) _ (again1 name_exact DropFilter a)
+act_again most lt (Remove a b c) = act_case most lt 5 (Remove a b c) _ (again3 user_exact name_exact key_exact Remove a b c)
+act_again most lt (Give a b c) = act_case most lt 6 (Give a b c) _ (again3 user_exact name_exact (text_exact most lt) Give a b c)
 
-keys_exact : Exact keys_at key_list
-keys_exact = counted MOST_KEYS (lit< tt) key_exact
-
--- ---- small choices
-
-bool_each : EachCase 0 (done false ∷ done true ∷ []) (Chosen 0 1 bool_field)
-bool_each = (only_done false _ (append-nil (byte_field 0 1 0)), (only_done true _ (append-nil (byte_field 0 1 1)), tt))
-
-bool_again : (x : Bool) → Again bool_at x (bool_field x)
-bool_again false = again_alone 0 1 (omega arith) (done false ∷ done true ∷ []) (Chosen 0 1 bool_field) bool_each 0 false (again_done false)
-bool_again true = again_alone 0 1 (omega arith) (done false ∷ done true ∷ []) (Chosen 0 1 bool_field) bool_each 1 true (again_done true)
-
-bool_exact : Exact bool_at bool_field
-bool_exact = choice_exact 0 1 (omega arith) (done false ∷ done true ∷ []) refl bool_field bool_again bool_each
-
-how_each : EachCase 0 (done Replace ∷ done Add ∷ done Take ∷ []) (Chosen 0 2 how_field)
-how_each = (only_done Replace _ (append-nil (byte_field 0 2 0)), (only_done Add _ (append-nil (byte_field 0 2 1)), (only_done Take _ (append-nil (byte_field 0 2 2)), tt)))
-
-how_again : (x : How) → Again how_at x (how_field x)
-how_again Replace = again_alone 0 2 (omega arith) (done Replace ∷ done Add ∷ done Take ∷ []) (Chosen 0 2 how_field) how_each 0 Replace (again_done Replace)
-how_again Add = again_alone 0 2 (omega arith) (done Replace ∷ done Add ∷ done Take ∷ []) (Chosen 0 2 how_field) how_each 1 Add (again_done Add)
-how_again Take = again_alone 0 2 (omega arith) (done Replace ∷ done Add ∷ done Take ∷ []) (Chosen 0 2 how_field) how_each 2 Take (again_done Take)
-
-how_exact : Exact how_at how_field
-how_exact = choice_exact 0 2 (omega arith) (done Replace ∷ done Add ∷ done Take ∷ []) refl how_field how_again how_each
-
-way_each : EachCase 0 (done Plain ∷ done NoSource ∷ done Merged ∷ []) (Chosen 0 2 way_field)
-way_each = (only_done Plain _ (append-nil (byte_field 0 2 0)), (only_done NoSource _ (append-nil (byte_field 0 2 1)), (only_done Merged _ (append-nil (byte_field 0 2 2)), tt)))
-
-way_again : (x : Way) → Again way_at x (way_field x)
-way_again Plain = again_alone 0 2 (omega arith) (done Plain ∷ done NoSource ∷ done Merged ∷ []) (Chosen 0 2 way_field) way_each 0 Plain (again_done Plain)
-way_again NoSource = again_alone 0 2 (omega arith) (done Plain ∷ done NoSource ∷ done Merged ∷ []) (Chosen 0 2 way_field) way_each 1 NoSource (again_done NoSource)
-way_again Merged = again_alone 0 2 (omega arith) (done Plain ∷ done NoSource ∷ done Merged ∷ []) (Chosen 0 2 way_field) way_each 2 Merged (again_done Merged)
-
-way_exact : Exact way_at way_field
-way_exact = choice_exact 0 2 (omega arith) (done Plain ∷ done NoSource ∷ done Merged ∷ []) refl way_field way_again way_each
-
--- ---- flags and users
-
-five : (a f d s r : Bool) → flags_of (flags_code (record { answered = a; flagged = f; deleted = d; seen = s; draft = r })) ≡ record { answered = a; flagged = f; deleted = d; seen = s; draft = r }
-five true true true true true = refl
-five true true true true false = refl
-five true true true false true = refl
-five true true true false false = refl
-five true true false true true = refl
-five true true false true false = refl
-five true true false false true = refl
-five true true false false false = refl
-five true false true true true = refl
-five true false true true false = refl
-five true false true false true = refl
-five true false true false false = refl
-five true false false true true = refl
-five true false false true false = refl
-five true false false false true = refl
-five true false false false false = refl
-five false true true true true = refl
-five false true true true false = refl
-five false true true false true = refl
-five false true true false false = refl
-five false true false true true = refl
-five false true false true false = refl
-five false true false false true = refl
-five false true false false false = refl
-five false false true true true = refl
-five false false true true false = refl
-five false false true false true = refl
-five false false true false false = refl
-five false false false true true = refl
-five false false false true false = refl
-five false false false false true = refl
-five false false false false false = refl
-
-all_below : (ℕ → Bool) → ℕ → Bool
-all_below test zero = true
-all_below test (suc k) = test k && all_below test k
-
-below_is : (test : ℕ → Bool) (k n : ℕ) → all_below test k ≡ true → n < k → test n ≡ true
-unfolding all_below
-below_is test zero n h lt = absurd (omega arith)
-below_is test (suc k) n h lt =
-    let p = and_parts (test k) (all_below test k) h in
-    elim (cases_lt n k) [
-      | inl less ↦ below_is test k n p.1 less
-      | inr le ↦ let e : k ≡ n = omega arith in subst (λ (m : ℕ). test m ≡ true) e p.0
-    ]
-
-code_again : (n : ℕ) → n ≤ ALL_FLAGS → flags_code (flags_of n) ≡ n
-unfolding all_below
-code_again n le = eqb-true _ _ (below_is (λ m. flags_code (flags_of m) == m) 32 n refl (omega arith))
-
-five_bits : Exact (byte_at 0 ALL_FLAGS) (byte_field 0 ALL_FLAGS)
-five_bits = byte_exact 0 ALL_FLAGS (omega arith)
-
-one_of_users : Exact (byte_at 0 LAST_USER) (byte_field 0 LAST_USER)
-one_of_users = byte_exact 0 LAST_USER (omega arith)
-
-flags_exact : Exact flags_at flags_field
-flags_exact = record {
-  again = λ f. subst (λ (g : Flags). Again flags_at g (flags_field f)) (five f.answered f.flagged f.deleted f.seen f.draft) (again1 five_bits flags_of (flags_code f));
-  only = only_step five_bits (λ n. done (flags_of n)) (λ f fs. fs ≡ flags_field f) (λ n fits. only_done (flags_of n) (λ f fs. byte_field 0 ALL_FLAGS n & fs ≡ flags_field f) (append-nil (byte_field 0 ALL_FLAGS n) ∙ ap (byte_field 0 ALL_FLAGS) (sym (code_again n (byte_bounds 0 ALL_FLAGS n fits).1))));
-}
-
-user_exact : Exact user_at user_field
-user_exact = record { again = λ u. again1 one_of_users user_of u.0; only = only1 one_of_users user_of (λ u fs. fs ≡ user_field u) (λ n. refl) }
-
--- ---- configurations and mailboxes
-
-account_exact : Exact account_at account_fields
-account_exact = record { again = λ q. again2 name_exact name_exact account_of q.name q.password; only = only2 name_exact name_exact account_of (λ q fs. fs ≡ account_fields q) (λ a b. refl) }
-
-alias_exact : Exact alias_at alias_fields
-alias_exact = record { again = λ q. again2 name_exact (any_counted user_exact) alias_of q.local q.users; only = only2 name_exact (any_counted user_exact) alias_of (λ q fs. fs ≡ alias_fields q) (λ a b. refl) }
-
-pub aliases_exact : Exact aliases_at aliases_fields
-aliases_exact = any_counted alias_exact
-
-entry_exact : Exact entry_at entry_fields
-entry_exact = record { again = λ q. again6 u64_exact key_exact u32_exact u32_exact flags_exact moment_exact entry_of q.uid q.key q.body.origin q.body.rev q.flags q.at; only = only6 u64_exact key_exact u32_exact u32_exact flags_exact moment_exact entry_of (λ q fs. fs ≡ entry_fields q) (λ a b c d x y. refl) }
-
-row_exact : Exact row_at row_fields
-row_exact = record { again = λ q. again4 user_exact name_exact u64_exact (any_counted entry_exact) row_of q.0.user q.0.name q.1.next q.1.entries; only = only4 user_exact name_exact u64_exact (any_counted entry_exact) row_of (λ q fs. fs ≡ row_fields q) (λ a b c d. refl) }
-
-sight_exact : Exact sight_at sight_fields
-sight_exact = record { again = λ q. again2 key_exact u32_exact sight_of q.key q.rev; only = only2 key_exact u32_exact sight_of (λ q fs. fs ≡ sight_fields q) (λ a b. refl) }
-
-replace_exact : Exact replace_at replace_fields
-replace_exact = record { again = λ q. again2 u32_exact body_exact replace_of q.0 q.1; only = only2 u32_exact body_exact replace_of (λ q fs. fs ≡ replace_fields q) (λ a b. refl) }
+act_exact : (most : ℕ) → most < 4294967296 → Exact (act_within_at most) (act_fields_within most)
+act_exact most lt = choice_exact 1 LAST_ACT (omega arith) (act_cases most) refl (act_fields_within most) (act_again most lt) (act_each most lt)
 
 -- ---- deeds
 
-deed_each : (most : ℕ) → most < 4294967296 → EachCase 1 (deed_cases most) (Chosen 1 LAST_DEED (deed_fields_within most))
-deed_each most lt = (
+deed_each : (last most : ℕ) → most < 4294967296 → EachCase 1 (deed_cases most) (Chosen 1 last (deed_fields_within last most))
+deed_each last most lt = (
   only3 any_text_exact (counted MOST_RECIPIENTS (lit< tt) name_exact) (text_exact most lt) Deliver _ (λ a b c. refl),
   (
     only4 name_exact flags_exact moment_exact (text_exact most lt) Append _ (λ a b c d. refl),
@@ -214,7 +119,7 @@ deed_each most lt = (
                         only2 name_exact name_exact Rename _ (λ a b. refl),
                         (
                           only2 name_exact keys_exact Delete _ (λ a b. refl),
-                          tt,
+                          (only1 (act_exact most lt) Acts _ (λ a. refl), (only2 user_exact (text_exact most lt) Notice _ (λ a b. refl), tt)),
                         ),
                       ),
                     ),
@@ -229,28 +134,30 @@ deed_each most lt = (
   ),
 )
 
-deed_case : (most : ℕ) → most < 4294967296 → (n : ℕ) (x : Deed) (fs : List Field) → Again (nth_case (n - 1) (deed_cases most)) x fs → Again (deed_at most) x (deed_kind n & fs)
-deed_case most lt n x fs h = again_case 1 LAST_DEED (omega arith) (deed_cases most) (Chosen 1 LAST_DEED (deed_fields_within most)) (deed_each most lt) n x fs h
+deed_case : (last most : ℕ) → 1 ≤ last → most < 4294967296 → (n : ℕ) (x : Deed) (fs : List Field) → Again (nth_case (n - 1) (deed_cases most)) x fs → Again (deed_at last most) x (deed_kind_to last n & fs)
+deed_case last most first lt n x fs h = again_case 1 last first (deed_cases most) (Chosen 1 last (deed_fields_within last most)) (deed_each last most lt) n x fs h
 
-deed_again : (most : ℕ) → most < 4294967296 → (x : Deed) → Again (deed_at most) x (deed_fields_within most x)
-deed_again most lt (Deliver a b c) = deed_case most lt 1 (Deliver a b c) _ (again3 any_text_exact (counted MOST_RECIPIENTS (lit< tt) name_exact) (text_exact most lt) Deliver a b c)
-deed_again most lt (Append a b c d) = deed_case most lt 2 (Append a b c d) _ (again4 name_exact flags_exact moment_exact (text_exact most lt) Append a b c d)
-deed_again most lt (Fetch a b c d) = deed_case most lt 3 (Fetch a b c d) _ (again4 name_exact keys_exact bool_exact bool_exact Fetch a b c d)
-deed_again most lt (Store a b c d) = deed_case most lt 4 (Store a b c d) _ (again4 name_exact keys_exact how_exact flags_exact Store a b c d)
-deed_again most lt (Copy a b c) = deed_case most lt 5 (Copy a b c) _ (again3 name_exact keys_exact name_exact Copy a b c)
-deed_again most lt (Names a) = deed_case most lt 6 (Names a) _ (again1 any_text_exact Names a)
-deed_again most lt (Status a) = deed_case most lt 7 (Status a) _ (again1 name_exact Status a)
-deed_again most lt (Select a) = deed_case most lt 8 (Select a) _ (again1 name_exact Select a)
-deed_again most lt (Expunge a b) = deed_case most lt 9 (Expunge a b) _ (again2 name_exact keys_exact Expunge a b)
-deed_again most lt (Close a b) = deed_case most lt 10 (Close a b) _ (again2 name_exact keys_exact Close a b)
-deed_again most lt (Create a) = deed_case most lt 11 (Create a) _ (again1 name_exact Create a)
-deed_again most lt (Rename a b) = deed_case most lt 12 (Rename a b) _ (again2 name_exact name_exact Rename a b)
-deed_again most lt (Delete a b) = deed_case most lt 13 (Delete a b) _ (again2 name_exact keys_exact Delete a b)
-deed_again most lt (Acts a) = never (deed_at most) (Acts a)
-deed_again most lt (Notice a b) = never (deed_at most) (Notice a b)
+deed_again : (last most : ℕ) → 1 ≤ last → most < 4294967296 → (x : Deed) → Again (deed_at last most) x (deed_fields_within last most x)
+deed_again last most first lt (Deliver a b c) = deed_case last most first lt 1 (Deliver a b c) _ (again3 any_text_exact (counted MOST_RECIPIENTS (lit< tt) name_exact) (text_exact most lt) Deliver a b c)
+deed_again last most first lt (Append a b c d) = deed_case last most first lt 2 (Append a b c d) _ (again4 name_exact flags_exact moment_exact (text_exact most lt) Append a b c d)
+deed_again last most first lt (Fetch a b c d) = deed_case last most first lt 3 (Fetch a b c d) _ (again4 name_exact keys_exact bool_exact bool_exact Fetch a b c d)
+deed_again last most first lt (Store a b c d) = deed_case last most first lt 4 (Store a b c d) _ (again4 name_exact keys_exact how_exact flags_exact Store a b c d)
+deed_again last most first lt (Copy a b c) = deed_case last most first lt 5 (Copy a b c) _ (again3 name_exact keys_exact name_exact Copy a b c)
+deed_again last most first lt (Names a) = deed_case last most first lt 6 (Names a) _ (again1 any_text_exact Names a)
+deed_again last most first lt (Status a) = deed_case last most first lt 7 (Status a) _ (again1 name_exact Status a)
+deed_again last most first lt (Select a) = deed_case last most first lt 8 (Select a) _ (again1 name_exact Select a)
+deed_again last most first lt (Expunge a b) = deed_case last most first lt 9 (Expunge a b) _ (again2 name_exact keys_exact Expunge a b)
+deed_again last most first lt (Close a b) = deed_case last most first lt 10 (Close a b) _ (again2 name_exact keys_exact Close a b)
+deed_again last most first lt (Create a) = deed_case last most first lt 11 (Create a) _ (again1 name_exact Create a)
+deed_again last most first lt (Rename a b) = deed_case last most first lt 12 (Rename a b) _ (again2 name_exact name_exact Rename a b)
+deed_again last most first lt (Delete a b) = deed_case last most first lt 13 (Delete a b) _ (again2 name_exact keys_exact Delete a b)
+deed_again last most first lt (Acts a) = deed_case last most first lt 14 (Acts a) _ (again1 (act_exact most lt) Acts a)
+deed_again last most first lt (Notice a b) = deed_case last most first lt 15 (Notice a b) _ (again2 user_exact (text_exact most lt) Notice a b)
 
-deed_exact : (most : ℕ) → most < 4294967296 → Exact (deed_at most) (deed_fields_within most)
-deed_exact most lt = choice_exact 1 LAST_DEED (omega arith) (deed_cases most) refl (deed_fields_within most) (deed_again most lt) (deed_each most lt)
+deed_exact : (last most : ℕ) → 1 ≤ last → last ≤ LAST_KEPT_DEED → most < 4294967296 → Exact (deed_at last most) (deed_fields_within last most)
+deed_exact last most first le lt =
+    let all : length (deed_cases most) ≡ LAST_KEPT_DEED = refl in
+    choice_up_to 1 last first (deed_cases most) (omega arith) (deed_fields_within last most) (deed_again last most first lt) (deed_each last most lt)
 
 -- ---- what was shown
 
@@ -359,20 +266,20 @@ only_if_true {C} c Q q = record {
 only_only : {A C : Type 0} {f : Reader A} {F : A → List Field} → Exact f F → (make : A → C) (Q : C → List Field → Type 0) → ((a : A) → Q (make a) (F a & only_if true)) → Only (read1 make f) Q
 only_only {A} {C} {f} {F} e make Q h = only_step e (λ z. done (make z)) Q (λ a fits. only_if_true (make a) (λ c fs. Q c (F a & fs)) (h a))
 
--- ---- items and acts
+-- ---- items
 
 no_rev : (n : ℕ) → (n == 0) ≡ true → 0 ≡ n
 no_rev n h = sym (eqb-true _ _ h)
 
-verb_deed : Exact (deed_at MOST_BODY) deed_fields
-verb_deed = deed_exact MOST_BODY (lit< tt)
+verb_deed : Exact (deed_at LAST_DEED MOST_BODY) deed_fields
+verb_deed = deed_exact LAST_DEED MOST_BODY (omega arith) (omega arith) (lit< tt)
 
 shown_of : (d : Deed) → Exact (shown_at MOST_KEYS (shown_kind d)) (shown_fields (shown_kind d))
 shown_of d = shown_exact MOST_KEYS (lit< tt) (shown_kind d) (kind_fits d)
 
 -- what is read behind the actor, behind the moment and behind the number
 abbrev from_deed : ℕ → ℕ → Option User → Reader Item
-from_deed n t b = deed_at MOST_BODY >>= λ d. read1 (item_of n t b d) (shown_at MOST_KEYS (shown_kind d))
+from_deed n t b = deed_at LAST_DEED MOST_BODY >>= λ d. read1 (item_of n t b 0 d) (shown_at MOST_KEYS (shown_kind d))
 
 abbrev from_actor : ℕ → ℕ → Reader Item
 from_actor n t = actor_at >>= λ b. from_deed n t b
@@ -381,7 +288,7 @@ abbrev from_moment : ℕ → Reader Item
 from_moment n = moment_at >>= λ t. from_actor n t
 
 deed_shrinks : (n t : ℕ) (b : Option User) → Shrinks (from_deed n t b)
-deed_shrinks n t b = shrinks_step verb_deed (λ d. read1 (item_of n t b d) (shown_at MOST_KEYS (shown_kind d))) (λ d fits. shrinks1 (shown_of d) (item_of n t b d))
+deed_shrinks n t b = shrinks_step verb_deed (λ d. read1 (item_of n t b 0 d) (shown_at MOST_KEYS (shown_kind d))) (λ d fits. shrinks1 (shown_of d) (item_of n t b 0 d))
 
 actor_shrinks : (n t : ℕ) → Shrinks (from_actor n t)
 actor_shrinks n t = shrinks_step actor_exact (from_deed n t) (λ b fits. deed_shrinks n t b)
@@ -394,70 +301,72 @@ item_exact = record {
   again = λ i. again_step u32_exact from_moment (λ n fits. moment_shrinks n) i.number i _
       (again_step moment_exact (from_actor i.number) (λ t fits. actor_shrinks i.number t) i.at i _
       (again_step actor_exact (from_deed i.number i.at) (λ b fits. deed_shrinks i.number i.at b) i.by i _
-      (again_step verb_deed (λ d. read1 (item_of i.number i.at i.by d) (shown_at MOST_KEYS (shown_kind d))) (λ d fits. shrinks1 (shown_of d) (item_of i.number i.at i.by d)) i.deed i _
-      (again_only (shown_of i.deed) (item_of i.number i.at i.by i.deed) i.shown i (i.rev == 0)
+      (again_step verb_deed (λ d. read1 (item_of i.number i.at i.by 0 d) (shown_at MOST_KEYS (shown_kind d))) (λ d fits. shrinks1 (shown_of d) (item_of i.number i.at i.by 0 d)) i.deed i _
+      (again_only (shown_of i.deed) (item_of i.number i.at i.by 0 i.deed) i.shown i (i.rev == 0)
       (λ h. ap (λ (r : ℕ). record i { rev = r }) (no_rev i.rev h))))));
   only = only_step u32_exact from_moment (λ i fs. fs ≡ item_fields i) (λ n fits.
       only_step moment_exact (from_actor n) _ (λ t fits.
       only_step actor_exact (from_deed n t) _ (λ b fits.
-      only_step verb_deed (λ d. read1 (item_of n t b d) (shown_at MOST_KEYS (shown_kind d))) _ (λ d fits.
-      only_only (shown_of d) (item_of n t b d) _ (λ s. refl)))));
+      only_step verb_deed (λ d. read1 (item_of n t b 0 d) (shown_at MOST_KEYS (shown_kind d))) _ (λ d fits.
+      only_only (shown_of d) (item_of n t b 0 d) _ (λ s. refl)))));
 }
 
--- a filter of the whole text is set by one act, and one of another scope by another
-set_of_body : (f : Filter) → are_in_range (of_body_fields f) ≡ true → act_kind 3 & of_body_fields f ≡ act_fields (SetFilter f)
-set_of_body f fits =
-    let body : is_of_body f.scope ≡ true = body_filter_only f fits in
-    ap (λ (fs : List Field). act_kind 3 & fs) (body_filter_is f body) ∙ ap (λ (t : Bool). if t then act_kind 3 & filter_fields f else act_kind 7 & scoped_fields 1 f) (sym body)
+-- ---- items that are kept
 
-set_of_other : (f : Filter) → are_in_range (scoped_fields 1 f) ≡ true → act_kind 7 & scoped_fields 1 f ≡ act_fields (SetFilter f)
-set_of_other f fits =
-    let other : is_of_body f.scope ≡ false = other_only f.scope (in_range_parts (filter_fields f) (scope_fields 1 f.scope) fits).1 in
-    ap (λ (t : Bool). if t then act_kind 3 & filter_fields f else act_kind 7 & scoped_fields 1 f) (sym other)
+kept_deed : Exact (deed_at LAST_KEPT_DEED most_of_four) kept_deed_fields
+kept_deed = deed_exact LAST_KEPT_DEED most_of_four (omega arith) (omega arith) (lit< tt)
 
-act_each : EachCase 1 act_cases (Chosen 1 LAST_ACT act_fields)
-act_each = (
-  only2 name_exact (any_counted user_exact) SetAlias _ (λ a b. refl),
-  (
-    only1 name_exact DropAlias _ (λ a. refl),
-    (
-      only_fit1 filter_exact SetFilter _ set_of_body,
-      (
-        only1 name_exact DropFilter _ (λ a. refl),
-        (
-          only3 user_exact name_exact key_exact Remove _ (λ a b c. refl),
-          (
-            only3 user_exact name_exact body_exact Give _ (λ a b c. refl),
-            (only_fit1 other_filter_exact SetFilter _ set_of_other, tt),
-          ),
-        ),
-      ),
-    ),
-  ),
-)
+kept_shown : (d : Deed) → Exact (shown_at most_of_four (shown_kind d)) (shown_fields_within most_of_four (shown_kind d))
+kept_shown d = shown_exact most_of_four (lit< tt) (shown_kind d) (kind_fits d)
 
-act_case : (n : ℕ) (x : Act) (fs : List Field) → Again (nth_case (n - 1) act_cases) x fs → Again act_at x (act_kind n & fs)
-act_case n x fs h = again_case 1 LAST_ACT (omega arith) act_cases (Chosen 1 LAST_ACT act_fields) act_each n x fs h
+-- what is read behind the rev, behind the actor, behind the moment and behind the number
+abbrev kept_from_deed : ℕ → ℕ → Option User → ℕ → Reader Item
+kept_from_deed n t b r = deed_at LAST_KEPT_DEED most_of_four >>= λ d. read1 (item_of n t b r d) (shown_at most_of_four (shown_kind d))
 
-act_again : (x : Act) → Again act_at x (act_fields x)
-act_again (SetAlias a b) = act_case 1 (SetAlias a b) _ (again2 name_exact (any_counted user_exact) SetAlias a b)
-act_again (DropAlias a) = act_case 2 (DropAlias a) _ (again1 name_exact DropAlias a)
-act_again (SetFilter f) = by_scope (is_of_body f.scope) refl
-  where
-    by_scope : (t : Bool) → is_of_body f.scope ≡ t → Again act_at (SetFilter f) (if t then act_kind 3 & filter_fields f else act_kind 7 & scoped_fields 1 f)
-    by_scope true e = subst (λ (fs : List Field). Again act_at (SetFilter f) (act_kind 3 & fs)) (body_filter_is f e) (act_case 3 (SetFilter f) _ (again1 filter_exact SetFilter f))
-    by_scope false e = act_case 7 (SetFilter f) _ (again1 other_filter_exact SetFilter f)
-act_again (DropFilter a) = act_case 4 (DropFilter a) _ (again1 name_exact DropFilter a)
-act_again (Remove a b c) = act_case 5 (Remove a b c) _ (again3 user_exact name_exact key_exact Remove a b c)
-act_again (Give a b c) = act_case 6 (Give a b c) _ (again3 user_exact name_exact body_exact Give a b c)
+abbrev kept_from_rev : ℕ → ℕ → Option User → Reader Item
+kept_from_rev n t b = u32_at >>= λ r. kept_from_deed n t b r
 
-act_exact : Exact act_at act_fields
-act_exact = choice_exact 1 LAST_ACT (omega arith) act_cases refl act_fields act_again act_each
+abbrev kept_from_actor : ℕ → ℕ → Reader Item
+kept_from_actor n t = actor_at >>= λ b. kept_from_rev n t b
+
+abbrev kept_from_moment : ℕ → Reader Item
+kept_from_moment n = moment_at >>= λ t. kept_from_actor n t
+
+kept_deed_shrinks : (n t : ℕ) (b : Option User) (r : ℕ) → Shrinks (kept_from_deed n t b r)
+kept_deed_shrinks n t b r = shrinks_step kept_deed (λ d. read1 (item_of n t b r d) (shown_at most_of_four (shown_kind d))) (λ d fits. shrinks1 (kept_shown d) (item_of n t b r d))
+
+kept_rev_shrinks : (n t : ℕ) (b : Option User) → Shrinks (kept_from_rev n t b)
+kept_rev_shrinks n t b = shrinks_step u32_exact (kept_from_deed n t b) (λ r fits. kept_deed_shrinks n t b r)
+
+kept_actor_shrinks : (n t : ℕ) → Shrinks (kept_from_actor n t)
+kept_actor_shrinks n t = shrinks_step actor_exact (kept_from_rev n t) (λ b fits. kept_rev_shrinks n t b)
+
+kept_moment_shrinks : (n : ℕ) → Shrinks (kept_from_moment n)
+kept_moment_shrinks n = shrinks_step moment_exact (kept_from_actor n) (λ t fits. kept_actor_shrinks n t)
+
+kept_exact : Exact kept_at kept_fields
+kept_exact = record {
+  again = λ i. again_step u32_exact kept_from_moment (λ n fits. kept_moment_shrinks n) i.number i _
+      (again_step moment_exact (kept_from_actor i.number) (λ t fits. kept_actor_shrinks i.number t) i.at i _
+      (again_step actor_exact (kept_from_rev i.number i.at) (λ b fits. kept_rev_shrinks i.number i.at b) i.by i _
+      (again_step u32_exact (kept_from_deed i.number i.at i.by) (λ r fits. kept_deed_shrinks i.number i.at i.by r) i.rev i _
+      (again_step kept_deed (λ d. read1 (item_of i.number i.at i.by i.rev d) (shown_at most_of_four (shown_kind d))) (λ d fits. shrinks1 (kept_shown d) (item_of i.number i.at i.by i.rev d)) i.deed i _
+      (again1 (kept_shown i.deed) (item_of i.number i.at i.by i.rev i.deed) i.shown)))));
+  only = only_step u32_exact kept_from_moment (λ i fs. fs ≡ kept_fields i) (λ n fits.
+      only_step moment_exact (kept_from_actor n) _ (λ t fits.
+      only_step actor_exact (kept_from_rev n t) _ (λ b fits.
+      only_step u32_exact (kept_from_deed n t b) _ (λ r fits.
+      only_step kept_deed (λ d. read1 (item_of n t b r d) (shown_at most_of_four (shown_kind d))) _ (λ d fits.
+      only1 (kept_shown d) (item_of n t b r d) _ (λ s. refl))))));
+}
 
 -- ---- records
 
+operator_act : Exact act_at act_fields
+operator_act = act_exact MOST_BODY (lit< tt)
+
 ask_exact : Exact cycle_ask_at ask_fields
-ask_exact = record { again = λ q. again5 name_exact u32_exact (any_counted u32_exact) (any_counted replace_exact) (any_counted act_exact) ask_of q.key q.point q.drops q.replaces q.inserts; only = only5 name_exact u32_exact (any_counted u32_exact) (any_counted replace_exact) (any_counted act_exact) ask_of (λ q fs. fs ≡ ask_fields q) (λ a b c d x. refl) }
+ask_exact = record { again = λ q. again5 name_exact u32_exact (any_counted u32_exact) (any_counted replace_exact) (any_counted operator_act) ask_of q.key q.point q.drops q.replaces q.inserts; only = only5 name_exact u32_exact (any_counted u32_exact) (any_counted replace_exact) (any_counted operator_act) ask_of (λ q fs. fs ≡ ask_fields q) (λ a b c d x. refl) }
 
 empty_is : (fs : List Filter) → is_empty fs ≡ true → [] ≡ fs
 empty_is [] h = refl
@@ -523,18 +432,30 @@ scoped_snapshot_only =
     only_behind scoped_filters_only (λ fs. read1 (snapshot_of i a fs) (any_list_at row_at)) _ (λ fs fields is fits.
     only1 rows_exact (snapshot_of i a fs) _ (λ r. ap (λ (x : List Field). snapshot_parts (record_kind 6) x i a r) is.0 ∙ with_scopes i a fs r is.1))))
 
+base_again : (next : ℕ) (deep : Bool) (conf : Conf) (rows : List (BoxId × Mailbox)) (stamps : List (BoxId × ℕ)) (reports : List (List ℕ × Report)) → Again base_at (Base next deep conf rows stamps reports) (base_fields next deep conf rows stamps reports)
+base_again next deep conf rows stamps reports = again7 u32_exact bool_exact aliases_exact scoped_list_exact rows_exact stamps_exact reports_exact base_of next deep conf.aliases conf.filters rows stamps reports
+
+base_only : Only base_at (λ r fs. record_kind 8 & fs ≡ record_fields r)
+base_only = only7 u32_exact bool_exact aliases_exact scoped_list_exact rows_exact stamps_exact reports_exact base_of _ (λ a b c d x y z. refl)
+
+text_again : (body : Body) (text : List ℕ) → Again text_record_at (Text body text) (text_record_fields body text)
+text_again body text = again3 u32_exact u32_exact any_text_exact text_of_body body.origin body.rev text
+
+text_record_only : Only text_record_at (λ r fs. record_kind 9 & fs ≡ record_fields r)
+text_record_only = only3 u32_exact u32_exact any_text_exact text_of_body _ (λ a b c. refl)
+
 record_each : EachCase 0 record_cases (Chosen 0 LAST_RECORD record_fields)
 record_each = (
   format_only,
   (
     only1 item_exact Verb _ (λ a. refl),
     (
-      only3 u32_exact moment_exact act_exact Operator _ (λ a b c. refl),
+      only3 u32_exact moment_exact operator_act Operator _ (λ a b c. refl),
       (
         only3 u32_exact moment_exact ask_exact Cycle _ (λ a b c. refl),
         (
           body_snapshot_only,
-          (only1 moment_exact Upgrade _ (λ a. refl), (scoped_snapshot_only, (only4 u32_exact moment_exact name_exact u32_exact Withdraw _ (λ a b c d. refl), tt))),
+          (only1 moment_exact Upgrade _ (λ a. refl), (scoped_snapshot_only, (only4 u32_exact moment_exact name_exact u32_exact Withdraw _ (λ a b c d. refl), (base_only, (text_record_only, (only1 kept_exact Kept _ (λ a. refl), tt)))))),
         ),
       ),
     ),
@@ -560,6 +481,9 @@ cases_with last =
     ∷ read1 Upgrade moment_at
     ∷ last
     ∷ read4 Withdraw u32_at moment_at name_at u32_at
+    ∷ base_at
+    ∷ text_record_at
+    ∷ read1 Kept kept_at
     ∷ []
 
 abbrev pub record_with : Reader JournalRecord → Reader JournalRecord
@@ -571,12 +495,12 @@ each_with last h = (
   (
     only1 item_exact Verb _ (λ a. tt),
     (
-      only3 u32_exact moment_exact act_exact Operator _ (λ a b c. tt),
+      only3 u32_exact moment_exact operator_act Operator _ (λ a b c. tt),
       (
         only3 u32_exact moment_exact ask_exact Cycle _ (λ a b c. tt),
         (
           only_weaker body_snapshot_only _ (λ c fs q. tt),
-          (only1 moment_exact Upgrade _ (λ a. tt), (h, (only4 u32_exact moment_exact name_exact u32_exact Withdraw _ (λ a b c d. tt), tt))),
+          (only1 moment_exact Upgrade _ (λ a. tt), (h, (only4 u32_exact moment_exact name_exact u32_exact Withdraw _ (λ a b c d. tt), (only_weaker base_only _ (λ c fs q. tt), (only_weaker text_record_only _ (λ c fs q. tt), (only1 kept_exact Kept _ (λ a. tt), tt)))))),
         ),
       ),
     ),
@@ -598,13 +522,16 @@ all_of_body false h = absurd cc
 pub again_with : (last : Reader JournalRecord) → Only last (λ r fs. Unit {0}) → (x : JournalRecord) → has_scopes x ≡ false → Again (record_with last) x (record_fields x)
 again_with last only (Format a b) h = case_with last only 0 (Format a b) _ (format_again a b)
 again_with last only (Verb a) h = case_with last only 1 (Verb a) _ (again1 item_exact Verb a)
-again_with last only (Operator a b c) h = case_with last only 2 (Operator a b c) _ (again3 u32_exact moment_exact act_exact Operator a b c)
+again_with last only (Operator a b c) h = case_with last only 2 (Operator a b c) _ (again3 u32_exact moment_exact operator_act Operator a b c)
 again_with last only (Cycle a b c) h = case_with last only 3 (Cycle a b c) _ (again3 u32_exact moment_exact ask_exact Cycle a b c)
 again_with last only (Snapshot items conf rows) h =
     subst (λ (fs : List Field). Again (record_with last) (Snapshot items conf rows) fs) (of_the_whole_text items conf.aliases conf.filters rows (all_of_body (are_of_body conf.filters) h))
     (case_with last only 4 (Snapshot items conf rows) _ (again4 u32_exact aliases_exact body_list_exact rows_exact snapshot_of items conf.aliases conf.filters rows))
 again_with last only (Upgrade a) h = case_with last only 5 (Upgrade a) _ (again1 moment_exact Upgrade a)
 again_with last only (Withdraw a b c d) h = case_with last only 7 (Withdraw a b c d) _ (again4 u32_exact moment_exact name_exact u32_exact Withdraw a b c d)
+again_with last only (Base a b c d x y) h = case_with last only 8 (Base a b c d x y) _ (base_again a b c d x y)
+again_with last only (Text a b) h = case_with last only 9 (Text a b) _ (text_again a b)
+again_with last only (Kept a) h = case_with last only 10 (Kept a) _ (again1 kept_exact Kept a)
 
 -- ---- that kind, whatever the scopes of its filters are
 
@@ -632,6 +559,9 @@ plain_again x = by_scopes x (has_scopes x) refl
     scoped (Cycle a b c) h = absurd cc
     scoped (Upgrade a) h = absurd cc
     scoped (Withdraw a b c d) h = absurd cc
+    scoped (Base a b c d x y) h = absurd cc
+    scoped (Text a b) h = absurd cc
+    scoped (Kept a) h = absurd cc
 
     by_scopes : (x : JournalRecord) (t : Bool) → has_scopes x ≡ t → Again (record_with any_scopes_at) x (record_fields x)
     by_scopes x true h = scoped x h

@@ -1,13 +1,20 @@
 -- Worked examples of spellings, computed.
-use Rattle.std.proofs.Common.{◌≡◌, ℕ, List, [], ◌∷◌, ◌++◌, length, Some, None, codes, refl}
+use Rattle.std.proofs.Common.{◌≡◌, ℕ, List, [], ◌∷◌, ◌++◌, length, true, Option, Some, None, codes, refl}
 use Rattle.verb_core.specs.declared.conf.Filter.{Filter}
 use Rattle.verb_core.specs.declared.conf.Scope.{Scope}
 use Rattle.verb_core.specs.declared.conf.Scope.TheVariants as scope
-use Rattle.verb_core.specs.declared.item.Act.TheVariants.{SetFilter}
+use Rattle.undo_base.specs.declared.keys.User.{User}
+use Rattle.verb_core.specs.declared.item.Act.TheVariants.{SetFilter, DropAlias}
+use Rattle.verb_core.specs.declared.item.Deed.{Deed}
+use Rattle.verb_core.specs.declared.item.Deed.TheVariants.{Create, Act, Notice}
+use Rattle.verb_core.specs.declared.item.Shown.TheVariants.{Nothing}
+use Rattle.paradox.specs.declared.reports.Report.{Report}
+use Rattle.paradox.specs.declared.words.Reason.TheVariants as reason
+use Rattle.paradox.specs.declared.words.Verb.TheVariants as verb
 use Rattle.verb_bytes.specs.declared.journal.JournalRecord.{JournalRecord}
-use Rattle.verb_bytes.specs.declared.journal.JournalRecord.TheVariants.{Operator, Snapshot, Upgrade, Withdraw}
-use Rattle.verb_bytes.specs.Fields.{bytes_of, byte_field, number_field, name_field, field_name_field}
-use Rattle.verb_bytes.specs.Readers.{byte_at, number_at, name_at, field_name_at, times}
+use Rattle.verb_bytes.specs.declared.journal.JournalRecord.TheVariants.{Operator, Snapshot, Upgrade, Withdraw, Base, Text, Kept}
+use Rattle.verb_bytes.specs.Fields.{bytes_of, byte_field, number_field, name_field, field_name_field, text_field}
+use Rattle.verb_bytes.specs.Readers.{actor_at, byte_at, number_at, text_at, name_at, field_name_at, times}
 use Rattle.verb_bytes.specs.Reading.{first_refused}
 use Rattle.verb_bytes.specs.Spelling.{record_bytes}
 
@@ -69,7 +76,52 @@ not_all_of_it : record_bytes (snapshot (filter scope.Body ∷ filter scope.Recip
 unfolding bytes_of byte_field number_field name_field field_name_field
 not_all_of_it = refl
 
--- where bytes are refused
+-- what a cycle reported
+abbrev report : Report
+report = record { cycle = 7; point = 2; kept = 4; broken = record { number = 5; user = record { 0 = 2 }; verb = verb.Delete; mailbox = Some (codes "Old"); reason = reason.Withdrawn } ∷ []; notices = 8 ∷ []; renewed = []; unmatched = [] }
+
+-- a base of no mailbox
+abbrev base : JournalRecord
+base = Base 9 true (record { aliases = []; filters = filter scope.Body ∷ [] }) [] ((record { user = record { 0 = 1 }; name = codes "Work" }, 3) ∷ []) ((codes "k1", report) ∷ [])
+
+a_base : record_bytes base ≡ 8 ∷ 0 ∷ 0 ∷ 0 ∷ 9 ∷ 1 ∷ none ++ 0 ∷ 0 ∷ 0 ∷ 1 ∷ filter_bytes ++ 0 ∷ none ++ 0 ∷ 0 ∷ 0 ∷ 1 ∷ 1 ∷ 4 ∷ 87 ∷ 111 ∷ 114 ∷ 107 ∷ 0 ∷ 0 ∷ 0 ∷ 3 ∷ 0 ∷ 0 ∷ 0 ∷ 1 ∷ 2 ∷ 107 ∷ 49 ∷ 0 ∷ 0 ∷ 0 ∷ 7 ∷ 0 ∷ 0 ∷ 0 ∷ 2 ∷ 0 ∷ 0 ∷ 0 ∷ 4
+    ∷ 0 ∷ 0 ∷ 0 ∷ 1 ∷ 0 ∷ 0 ∷ 0 ∷ 5 ∷ 2 ∷ 13 ∷ 1 ∷ 3 ∷ 79 ∷ 108 ∷ 100 ∷ 8 ∷ 0 ∷ 0 ∷ 0 ∷ 1 ∷ 0 ∷ 0 ∷ 0 ∷ 8 ∷ none ++ none
+unfolding bytes_of byte_field number_field name_field field_name_field
+a_base = refl
+
+a_text : record_bytes (Text (record { origin = 5; rev = 7 }) (codes "hi")) ≡ 9 ∷ 0 ∷ 0 ∷ 0 ∷ 5 ∷ 0 ∷ 0 ∷ 0 ∷ 7 ∷ 0 ∷ 0 ∷ 0 ∷ 2 ∷ 104 ∷ 105 ∷ []
+unfolding bytes_of byte_field number_field text_field
+a_text = refl
+
+-- an item that is kept, with its rev
+abbrev kept : Option User → ℕ → Deed → JournalRecord
+kept by rev d = Kept (record { number = 5; at = 1105092000; by = by; rev = rev; deed = d; shown = Nothing })
+
+a_kept_create : record_bytes (kept (Some (record { 0 = 0 })) 7 (Create (codes "W"))) ≡ 10 ∷ 0 ∷ 0 ∷ 0 ∷ 5 ∷ moment ++ 0 ∷ 0 ∷ 0 ∷ 0 ∷ 7 ∷ 11 ∷ 1 ∷ 87 ∷ 0 ∷ []
+unfolding bytes_of byte_field number_field name_field
+a_kept_create = refl
+
+a_kept_act : record_bytes (kept None 0 (Act (DropAlias (codes "a")))) ≡ 10 ∷ 0 ∷ 0 ∷ 0 ∷ 5 ∷ moment ++ 255 ∷ none ++ 14 ∷ 2 ∷ 1 ∷ 97 ∷ 0 ∷ []
+unfolding bytes_of byte_field number_field name_field
+a_kept_act = refl
+
+a_kept_notice : record_bytes (kept None 0 (Notice (record { 0 = 2 }) (codes "hi"))) ≡ 10 ∷ 0 ∷ 0 ∷ 0 ∷ 5 ∷ moment ++ 255 ∷ none ++ 15 ∷ 2 ∷ 0 ∷ 0 ∷ 0 ∷ 2 ∷ 104 ∷ 105 ∷ 0 ∷ []
+unfolding bytes_of byte_field number_field text_field
+a_kept_notice = refl
+
+-- where bytes are refused: an act in a user's item, a deed behind the notices
+refused_act_of_a_user : first_refused (1 ∷ 0 ∷ 0 ∷ 0 ∷ 5 ∷ moment ++ 255 ∷ 14 ∷ 2 ∷ 1 ∷ 97 ∷ 0 ∷ []) ≡ Some 14
+unfolding byte_at number_at actor_at name_at
+refused_act_of_a_user = refl
+
+refused_deed : first_refused (10 ∷ 0 ∷ 0 ∷ 0 ∷ 5 ∷ moment ++ 255 ∷ none ++ 16 ∷ []) ≡ Some 18
+unfolding byte_at number_at actor_at name_at
+refused_deed = refl
+
+refused_shown_of_a_notice : first_refused (10 ∷ 0 ∷ 0 ∷ 0 ∷ 5 ∷ moment ++ 255 ∷ none ++ 15 ∷ 2 ∷ none ++ 1 ∷ []) ≡ Some 24
+unfolding byte_at number_at actor_at name_at text_at
+refused_shown_of_a_notice = refl
+
 abbrev scoped : List ℕ
 scoped = front 6 ++ 0 ∷ 0 ∷ 0 ∷ 1 ∷ filter_bytes ++ 3 ∷ none
 

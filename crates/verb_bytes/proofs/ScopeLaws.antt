@@ -1,6 +1,6 @@
 -- Filters with their scopes are read from their fields, and only from these; and lists of filters of which some looks at less
 -- than the whole text are read only from such lists, and stop only behind the first fields of one.
-use Rattle.std.proofs.Common.{◌≡◌, ℕ, suc, ◌<◌, ◌≤◌, Bool, true, false, ◌&&◌, not, List, [], ◌∷◌, ◌++◌, length, Option, None, Result, Ok, Err, refl, sym, ap, subst, ◌∙◌, append_assoc, arith, inl, inr, ◌⊎◌, codes}
+use Rattle.std.proofs.Common.{◌≡◌, ℕ, suc, ◌≤◌, Bool, true, false, ◌&&◌, not, List, [], ◌∷◌, ◌++◌, length, Option, None, Result, Ok, Err, refl, sym, ap, subst, ◌∙◌, append_assoc, arith, inl, inr, ◌⊎◌}
 use Rattle.std.specs.Prelude.{if◌then◌else◌, nat_le}
 use Rattle.std.specs.List.{flat_map}
 use Rattle.std.specs.Int.{w32, to_be_bytes}
@@ -13,11 +13,11 @@ use Rattle.verb_core.specs.Filters.{is_of_body, are_of_body}
 use Rattle.verb_bytes.specs.Fields.{Field, bytes_of, are_in_range, ◌&◌, only_if, byte_field, number_field, name_field, option_fields, any_list_fields, most_of_four}
 use Rattle.verb_bytes.specs.Spelling.{filter_fields, scope_fields, scoped_fields}
 use Rattle.verb_bytes.specs.Decoding.{IsBytes}
-use Rattle.verb_bytes.specs.Readers.{Reader, done, read1, nth_case, kept_if, such_that}
+use Rattle.verb_bytes.specs.Readers.{Reader, done, read1, kept_if}
 use Rattle.verb_bytes.specs.Reading.{any_list_at, filter_at, filter_of, other_scope_at, other_scopes, scope_at, scoped_at, scoped_filters_at}
-use Rattle.verb_bytes.proofs.Exact.{Takes, Stops, Shrinks, Again, Only, Exact, ok_is, left_of, two_cuts, in_range_parts, in_range_both, only_step, only_done, again_done, again1, only1, again4, only4, EachCase}
+use Rattle.verb_bytes.proofs.Exact.{Stops, Again, Only, Exact, ok_is, left_of, two_cuts, in_range_parts, in_range_both, only_step, only_done, again_done, again1, only1, again4, only4, EachCase}
 use Rattle.verb_bytes.proofs.FieldLaws.{Chosen, any_counted, again_alone, again_case, choice_exact, field_name_exact, name_exact, option_exact}
-use Rattle.verb_bytes.proofs.Ranges.{byte_fits, name_fits}
+use Rattle.verb_bytes.proofs.Ranges.{byte_fits}
 
 -- ---- fields that are never in their ranges
 

@@ -6,9 +6,10 @@ use Rattle.std.proofs.lemmas.List.{length-append, append-nil}
 use Rattle.std.proofs.lemmas.List.Concat.{flat_map-append}
 use Rattle.undo_base.specs.declared.keys.Key.{Key}
 use Rattle.undo_base.specs.declared.keys.User.{User}
+use Rattle.verb_core.specs.declared.mailbox.Body.{Body}
 use Rattle.verb_bytes.specs.declared.write.TheConstants.{LAST_USER}
 use Rattle.verb_bytes.specs.Fields.{Field, most_of_four, bytes_of, byte_field, number_field, name_field, field_name_field, text_field, key_field, user_field, u32_field}
-use Rattle.verb_bytes.specs.Places.{size_of, before_deed, before_act, before_ask}
+use Rattle.verb_bytes.specs.Places.{size_of, before_deed, before_kept_deed, before_act, before_ask, before_text}
 use Rattle.verb_bytes.specs.declared.places.TextPlace.{TextPlace}
 
 pub size_both : (a b : List Field) → size_of (a ++ b) ≡ size_of a + size_of b
@@ -77,3 +78,15 @@ before_act_is number at = refl
 pub before_ask_is : (number at : ℕ) → before_ask number at ≡ 13
 unfolding size_of bytes_of byte_field number_field
 before_ask_is number at = refl
+
+pub before_kept_deed_is : (number at : ℕ) (by : Option User) (rev : ℕ) → before_kept_deed number at by rev ≡ 18
+unfolding size_of bytes_of byte_field number_field
+before_kept_deed_is number at None rev = refl
+before_kept_deed_is number at (Some u) rev = refl
+
+pub before_text_is : (body : Body) → before_text body ≡ 9
+unfolding size_of bytes_of byte_field number_field
+before_text_is body = refl
+
+-- behind the kind of a deed
+pub ruleset kind_sizes = (size_both, size_byte)

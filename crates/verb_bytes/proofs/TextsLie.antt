@@ -1,5 +1,5 @@
 -- Each text of a record lies at its place.
-use Rattle.std.proofs.Common.{◌≡◌, ℕ, ◌+◌, ◌==◌, true, List, [], ◌∷◌, ◌++◌, length, take, drop, map, Option, Some, None, refl, sym, ap, subst, ◌∙◌, append_assoc, arith}
+use Rattle.std.proofs.Common.{◌≡◌, ℕ, ◌+◌, ◌==◌, List, [], ◌∷◌, ◌++◌, length, take, drop, map, Option, Some, None, refl, sym, ap, subst, ◌∙◌, append_assoc, arith}
 use Rattle.std.specs.Prelude.{slice_range}
 use Rattle.std.specs.List.{AllZip, cons_option, filter_map, flat_map}
 use Rattle.std.specs.Int.{w32, to_be_bytes}
@@ -7,6 +7,7 @@ use Rattle.std.specs.Option.{option_to_list}
 use Rattle.std.proofs.lemmas.List.{append-nil, take_at, drop_at, length-append}
 use Rattle.std.proofs.lemmas.List.Concat.{flat_map-append}
 use Rattle.undo_base.specs.declared.limits.TheConstants.{MOST_RECIPIENTS}
+use Rattle.verb_core.specs.declared.mailbox.Body.{Body}
 use Rattle.verb_core.specs.declared.item.Act.{Act}
 use Rattle.verb_core.specs.declared.item.Act.TheVariants.{Give}
 use Rattle.verb_core.specs.declared.item.Deed.{Deed}
@@ -15,13 +16,13 @@ use Rattle.verb_core.specs.declared.item.Item.{Item}
 use Rattle.verb_core.specs.Items.{text_in}
 use Rattle.verb_bytes.specs.declared.journal.CycleAsk.{CycleAsk}
 use Rattle.verb_bytes.specs.declared.journal.JournalRecord.{JournalRecord}
-use Rattle.verb_bytes.specs.declared.journal.JournalRecord.TheVariants.{Verb, Operator, Cycle}
+use Rattle.verb_bytes.specs.declared.journal.JournalRecord.TheVariants.{Verb, Operator, Cycle, Text, Kept}
 use Rattle.verb_bytes.specs.declared.places.TextPlace.{TextPlace}
+use Rattle.verb_bytes.specs.declared.kinds.TheConstants.{LAST_DEED, LAST_KEPT_DEED}
 use Rattle.verb_bytes.specs.declared.write.TheConstants.{MOST_BODY}
-use Rattle.verb_bytes.specs.Fields.{Field, bytes_of, are_in_range, ◌&◌, only_if, number_field, name_field, text_field, list_fields, flags_field, u32_field, moment_field, any_text_field, body_field, user_field, actor_field, any_list_fields, most_of_four, record_kind, act_kind, deed_kind}
+use Rattle.verb_bytes.specs.Fields.{Field, bytes_of, ◌&◌, only_if, number_field, name_field, text_field, list_fields, flags_field, u32_field, moment_field, any_text_field, body_field, user_field, actor_field, any_list_fields, most_of_four, record_kind, act_kind, deed_kind_to}
 use Rattle.verb_bytes.specs.Places.{act_place, before_ask, behind, deed_place, given_places, given_texts, places_along, replace_place, replaced_places, replaced_texts, size_of, text_places_of, texts_in, IsTextAt, LiesThere}
-use Rattle.verb_bytes.specs.Spelling.{HasSpelling, act_fields, deed_fields, record_bytes, replace_fields, shown_fields, shown_kind}
-use Rattle.verb_bytes.proofs.Forms.{deed_ranged}
+use Rattle.verb_bytes.specs.Spelling.{HasSpelling, act_fields, act_fields_within, deed_fields, deed_fields_within, kept_deed_fields, record_bytes, replace_fields, shown_fields, shown_fields_within, shown_kind}
 use Rattle.verb_bytes.proofs.Sizes.{size_both}
 
 -- ---- a text among bytes
@@ -76,11 +77,11 @@ behind_one pre a text post = simp append_assoc refl
 abbrev pub text_of_act : Act → Option (List ℕ)
 text_of_act a = text_in (Acts a)
 
-pub act_lies : (a : Act) → Lies act_fields act_place text_of_act a
-act_lies (Give u mailbox text) pre post =
+pub act_lies : (most : ℕ) (a : Act) → Lies (act_fields_within most) act_place text_of_act a
+act_lies most (Give u mailbox text) pre post =
     let kind = act_kind 6 in
-    (one_lies pre (kind & user_field u & name_field mailbox) post _ MOST_BODY text (behind_three pre kind (user_field u) (name_field mailbox) (body_field text) post), tt)
-act_lies _ pre post = tt
+    (one_lies pre (kind & user_field u & name_field mailbox) post _ most text (behind_three pre kind (user_field u) (name_field mailbox) (text_field most text) post), tt)
+act_lies most _ pre post = tt
 
 abbrev pub new_text : ℕ × List ℕ → Option (List ℕ)
 new_text r = Some r.1
@@ -124,30 +125,60 @@ each_new (r ∷ rs) = ap (λ (texts : List (List ℕ)). r.1 ∷ texts) (each_new
 
 -- ---- records
 
--- a user's own deed: an act and a notice have no spelling
-pub deed_lies : (d : Deed) → are_in_range (deed_fields d) ≡ true → Lies deed_fields deed_place text_in d
-unfolding are_in_range only_if
-deed_lies (Deliver from to text) fits pre post =
-    let kind = deed_kind 1 in
-    (one_lies pre (kind & any_text_field from & list_fields MOST_RECIPIENTS name_field to) post _ MOST_BODY text (behind_three pre kind (any_text_field from) (list_fields MOST_RECIPIENTS name_field to) (body_field text) post), tt)
-deed_lies (Append mailbox given at text) fits pre post =
-    let kind = deed_kind 2 in
-    (one_lies pre (kind & name_field mailbox & flags_field given & moment_field at) post _ MOST_BODY text (behind_four pre kind (name_field mailbox) (flags_field given) (moment_field at) (body_field text) post), tt)
-deed_lies (Acts a) fits pre post = absurd cc
-deed_lies (Notice u text) fits pre post = absurd cc
-deed_lies _ fits pre post = tt
+behind_two : (pre a b text post : List Field) → pre ++ ((a ++ (b ++ text)) ++ post) ≡ (pre ++ (a ++ b)) ++ (text ++ post)
+behind_two pre a b text post = simp append_assoc refl
+
+-- a part behind a kind of its own
+behind_kind : {A : Type 0} (F : A → List Field) (P : ℕ → A → Option TextPlace) (T : A → Option (List ℕ)) (kind : List Field) (x : A) → Lies F P T x → Lies (λ y. kind & F y) (λ n y. P (n + size_of kind) y) T x
+behind_kind F P T kind x h pre post =
+    subst (λ (n : ℕ). AllZip (LiesThere (bytes_of (pre ++ ((kind ++ F x) ++ post)))) (option_to_list (P n x)) (option_to_list (T x))) (size_both pre kind)
+    (subst (λ (fs : List Field). AllZip (LiesThere (bytes_of fs)) (option_to_list (P (size_of (pre ++ kind)) x)) (option_to_list (T x))) (sym (other_parts pre kind (F x) post)) (h (pre ++ kind) post))
+
+pub deed_lies : (last most : ℕ) (d : Deed) → Lies (deed_fields_within last most) (deed_place last) text_in d
+deed_lies last most (Deliver from to text) pre post =
+    let kind = deed_kind_to last 1 in
+    (one_lies pre (kind & any_text_field from & list_fields MOST_RECIPIENTS name_field to) post _ most text (behind_three pre kind (any_text_field from) (list_fields MOST_RECIPIENTS name_field to) (text_field most text) post), tt)
+deed_lies last most (Append mailbox given at text) pre post =
+    let kind = deed_kind_to last 2 in
+    (one_lies pre (kind & name_field mailbox & flags_field given & moment_field at) post _ most text (behind_four pre kind (name_field mailbox) (flags_field given) (moment_field at) (text_field most text) post), tt)
+deed_lies last most (Acts a) pre post = behind_kind (act_fields_within most) act_place text_of_act (deed_kind_to last 14) a (act_lies most a) pre post
+deed_lies last most (Notice u text) pre post =
+    let kind = deed_kind_to last 15 in
+    (one_lies pre (kind & user_field u) post _ most text (behind_two pre kind (user_field u) (text_field most text) post), tt)
+deed_lies last most _ pre post = tt
 
 deed_parts : (kind number at by deed shown rest : List Field) → kind ++ (number ++ (at ++ (by ++ (deed ++ (shown ++ rest))))) ≡ (kind ++ (number ++ (at ++ by))) ++ (deed ++ (shown ++ rest))
 deed_parts kind number at by deed shown rest = simp append_assoc refl
 
-pub verb_lies : (i : Item) → HasSpelling (Verb i) → AllZip (LiesThere (record_bytes (Verb i))) (text_places_of (Verb i)) (texts_in (Verb i))
-verb_lies i fits =
+pub verb_lies : (i : Item) → AllZip (LiesThere (record_bytes (Verb i))) (text_places_of (Verb i)) (texts_in (Verb i))
+verb_lies i =
     let kind = record_kind 1 in
     let pre = kind & u32_field i.number & moment_field i.at & actor_field i.by in
     let shown = shown_fields (shown_kind i.deed) i.shown in
     let post = shown & only_if (i.rev == 0) in
     subst (λ (fs : List Field). AllZip (LiesThere (bytes_of fs)) (text_places_of (Verb i)) (texts_in (Verb i))) (sym (deed_parts kind (u32_field i.number) (moment_field i.at) (actor_field i.by) (deed_fields i.deed) shown (only_if (i.rev == 0))))
-    (deed_lies i.deed (deed_ranged i fits) pre post)
+    (deed_lies LAST_DEED MOST_BODY i.deed pre post)
+
+kept_parts : (kind number at by rev deed shown : List Field) → kind ++ (number ++ (at ++ (by ++ (rev ++ (deed ++ shown))))) ≡ (kind ++ (number ++ (at ++ (by ++ rev)))) ++ (deed ++ shown)
+kept_parts kind number at by rev deed shown = simp append_assoc refl
+
+pub kept_lies : (i : Item) → AllZip (LiesThere (record_bytes (Kept i))) (text_places_of (Kept i)) (texts_in (Kept i))
+kept_lies i =
+    let kind = record_kind 10 in
+    let pre = kind & u32_field i.number & moment_field i.at & actor_field i.by & u32_field i.rev in
+    let shown = shown_fields_within most_of_four (shown_kind i.deed) i.shown in
+    subst (λ (fs : List Field). AllZip (LiesThere (bytes_of fs)) (text_places_of (Kept i)) (texts_in (Kept i))) (sym (kept_parts kind (u32_field i.number) (moment_field i.at) (actor_field i.by) (u32_field i.rev) (kept_deed_fields i.deed) shown))
+    (deed_lies LAST_KEPT_DEED most_of_four i.deed pre shown)
+
+text_parts : (kind origin rev text : List Field) → kind ++ (origin ++ (rev ++ text)) ≡ (kind ++ (origin ++ rev)) ++ (text ++ [])
+text_parts kind origin rev text = simp (append_assoc, append-nil) refl
+
+pub body_lies : (body : Body) (text : List ℕ) → AllZip (LiesThere (record_bytes (Text body text))) (text_places_of (Text body text)) (texts_in (Text body text))
+body_lies body text =
+    let kind = record_kind 9 in
+    let pre = kind & u32_field body.origin & u32_field body.rev in
+    subst (λ (fs : List Field). AllZip (LiesThere (bytes_of fs)) (text_places_of (Text body text)) (texts_in (Text body text))) (sym (text_parts kind (u32_field body.origin) (u32_field body.rev) (any_text_field text)))
+    (field_at pre [] most_of_four text, tt)
 
 act_parts : (kind number at act : List Field) → kind ++ (number ++ (at ++ act)) ≡ (kind ++ (number ++ at)) ++ (act ++ [])
 act_parts kind number at act = simp (append_assoc, append-nil) refl
@@ -157,7 +188,7 @@ operator_lies number at a =
     let kind = record_kind 2 in
     let pre = kind & u32_field number & moment_field at in
     subst (λ (fs : List Field). AllZip (LiesThere (bytes_of fs)) (text_places_of (Operator number at a)) (texts_in (Operator number at a))) (sym (act_parts kind (u32_field number) (moment_field at) (act_fields a)))
-    (act_lies a pre [])
+    (act_lies MOST_BODY a pre [])
 
 replace_parts : (before key point drops count replaces inserts : List Field) → before ++ (key ++ (point ++ (drops ++ ((count ++ replaces) ++ inserts)))) ≡ (before ++ (key ++ (point ++ (drops ++ count)))) ++ (replaces ++ inserts)
 replace_parts before key point drops count replaces inserts = simp append_assoc refl
@@ -193,7 +224,7 @@ given_lie number at ask =
     let count = number_field w32 most_of_four (length ask.inserts) in
     let front = key & point & drops & replaces & count in
     let parts = ask_parts (record_kind 3) (u32_field number) (moment_field at) (key & point & drops & replaces & count & flat_map act_fields ask.inserts) ∙ insert_parts before key point drops replaces count (flat_map act_fields ask.inserts) in
-    let lie = each_lies act_fields act_place text_of_act act_lies ask.inserts (before & front) [] in
+    let lie = each_lies act_fields act_place text_of_act (act_lies MOST_BODY) ask.inserts (before & front) [] in
     subst (λ (fs : List Field). AllZip (LiesThere (bytes_of fs)) (given_places (before_ask number at) ask) (given_texts ask)) (sym parts)
     (subst (λ (n : ℕ). AllZip (LiesThere (bytes_of ((before & front) & flat_map act_fields ask.inserts & []))) (places_along act_fields act_place n ask.inserts) (given_texts ask)) (size_both before front) lie)
 
@@ -201,7 +232,9 @@ pub cycle_lies : (number at : ℕ) (ask : CycleAsk) → AllZip (LiesThere (recor
 cycle_lies number at ask = both_zip _ (replaced_places (before_ask number at) ask) (replaced_texts ask) (given_places (before_ask number at) ask) (given_texts ask) (replaced_lie number at ask) (given_lie number at ask)
 
 pub texts_lie : (what : JournalRecord) → HasSpelling what → AllZip (LiesThere (record_bytes what)) (text_places_of what) (texts_in what)
-texts_lie (Verb i) fits = verb_lies i fits
+texts_lie (Verb i) fits = verb_lies i
 texts_lie (Operator number at a) fits = operator_lies number at a
 texts_lie (Cycle number at ask) fits = cycle_lies number at ask
+texts_lie (Text body text) fits = body_lies body text
+texts_lie (Kept i) fits = kept_lies i
 texts_lie _ fits = tt

@@ -137,6 +137,10 @@ record_kind kind = byte_field 0 LAST_RECORD kind
 abbrev pub act_kind : ℕ → List Field
 act_kind kind = byte_field 1 LAST_ACT kind
 
+-- the kind of a deed, where this is the last
+abbrev pub deed_kind_to : ℕ → ℕ → List Field
+deed_kind_to last kind = byte_field 1 last kind
+
 -- the kind of a user's deed
 abbrev pub deed_kind : ℕ → List Field
-deed_kind kind = byte_field 1 LAST_DEED kind
+deed_kind kind = deed_kind_to LAST_DEED kind

@@ -7,7 +7,7 @@ use Rattle.undo_base.specs.declared.keys.Flags.{Flags}
 use Rattle.verb_bytes.specs.declared.cursor.Stop.{Stop}
 use Rattle.verb_bytes.specs.declared.cursor.Stop.TheVariants.{At, NoMemory}
 use Rattle.undo_base.specs.declared.limits.TheConstants.{LAST_MOMENT}
-use Rattle.verb_bytes.specs.declared.kinds.TheConstants.{LAST_RECORD, LAST_ACT, LAST_DEED}
+use Rattle.verb_bytes.specs.declared.kinds.TheConstants.{LAST_RECORD, LAST_ACT}
 use Rattle.verb_bytes.specs.declared.write.TheConstants.{ALL_FLAGS, LAST_USER, NOBODY}
 use Rattle.header_fields.specs.Values.{is_field_name}
 use Rattle.verb_bytes.specs.Fields.{is_name, most_of_four}
@@ -128,6 +128,9 @@ read5 make a b d e f = a >>= λ x. read4 (make x) b d e f
 abbrev pub read6 : {A B D E F G C : Type 0} → (A → B → D → E → F → G → C) → Reader A → Reader B → Reader D → Reader E → Reader F → Reader G → Reader C
 read6 make a b d e f g = a >>= λ x. read5 (make x) b d e f g
 
+abbrev pub read7 : {A B D E F G H C : Type 0} → (A → B → D → E → F → G → H → C) → Reader A → Reader B → Reader D → Reader E → Reader F → Reader G → Reader H → Reader C
+read7 make a b d e f g h = a >>= λ x. read6 (make x) b d e f g h
+
 -- ---- lists and choices
 
 -- one after the other
@@ -155,8 +158,8 @@ record_kind_at = byte_at 0 LAST_RECORD
 abbrev pub act_kind_at : Reader ℕ
 act_kind_at = byte_at 1 LAST_ACT
 
-abbrev pub deed_kind_at : Reader ℕ
-deed_kind_at = byte_at 1 LAST_DEED
+abbrev pub deed_kind_at : ℕ → Reader ℕ
+deed_kind_at last = byte_at 1 last
 
 abbrev pub option_at : {A : Type 0} → Reader A → Reader (Option A)
 option_at one = choice_at 0 1 (done None ∷ read1 Some one ∷ [])

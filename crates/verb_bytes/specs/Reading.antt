@@ -1,5 +1,5 @@
 -- How the code reads each record, from left to right. What it answers is said in Decoding, without this.
-use Rattle.std.specs.Prelude.{◌≡◌, ℕ, ◌-◌, not, List, [], ◌∷◌, length, Option, Some, None, Result, Ok, Err}
+use Rattle.std.specs.Prelude.{◌≡◌, ℕ, ◌-◌, Bool, not, List, [], ◌∷◌, length, Option, Some, None, Result, Ok, Err}
 use Rattle.undo_base.specs.declared.keys.Key.{Key}
 use Rattle.undo_base.specs.declared.keys.User.{User}
 use Rattle.undo_base.specs.declared.keys.Flags.{Flags}
@@ -22,20 +22,26 @@ use Rattle.verb_core.specs.declared.item.Way.TheVariants.{Plain, NoSource, Merge
 use Rattle.verb_core.specs.declared.item.Act.{Act}
 use Rattle.verb_core.specs.declared.item.Act.TheVariants.{SetAlias, DropAlias, SetFilter, DropFilter, Remove, Give}
 use Rattle.verb_core.specs.declared.item.Deed.{Deed}
-use Rattle.verb_core.specs.declared.item.Deed.TheVariants.{Deliver, Append, Fetch, Store, Copy, List as Names, Status, Select, Expunge, Close, Create, Rename, Delete}
+use Rattle.verb_core.specs.declared.item.Deed.TheVariants.{Deliver, Append, Fetch, Store, Copy, List as Names, Status, Select, Expunge, Close, Create, Rename, Delete, Act as Acts, Notice}
 use Rattle.verb_core.specs.declared.item.Shown.{Shown}
 use Rattle.verb_core.specs.declared.item.Shown.TheVariants.{Nothing, Seen, Names as Named, Count, Done, Copied, Put, Left, Way as Went, Moved}
+use Rattle.paradox.specs.declared.reports.BrokenItem.{BrokenItem}
+use Rattle.paradox.specs.declared.reports.Report.{Report}
+use Rattle.paradox.specs.declared.words.Reason.{Reason}
+use Rattle.paradox.specs.declared.words.Reason.TheVariants as reason
+use Rattle.paradox.specs.declared.words.Verb.{Verb as UserVerb}
+use Rattle.paradox.specs.declared.words.Verb.TheVariants as verb
 use Rattle.verb_bytes.specs.declared.journal.CycleAsk.{CycleAsk}
 use Rattle.verb_bytes.specs.declared.journal.JournalRecord.{JournalRecord}
-use Rattle.verb_bytes.specs.declared.journal.JournalRecord.TheVariants.{Format, Verb, Operator, Cycle, Snapshot, Upgrade, Withdraw}
+use Rattle.verb_bytes.specs.declared.journal.JournalRecord.TheVariants.{Format, Verb, Operator, Cycle, Snapshot, Upgrade, Withdraw, Base, Text, Kept}
 use Rattle.verb_bytes.specs.declared.decode.BadBytes.{BadBytes}
 use Rattle.verb_bytes.specs.declared.decode.BadBytes.TheVariants.{Place, NoMemory}
-use Rattle.verb_bytes.specs.declared.kinds.TheConstants.{LAST_RECORD, LAST_ACT, LAST_DEED}
+use Rattle.verb_bytes.specs.declared.kinds.TheConstants.{LAST_RECORD, LAST_ACT, LAST_DEED, LAST_KEPT_DEED, LAST_REASON}
 use Rattle.verb_bytes.specs.declared.write.TheConstants.{MOST_BODY}
 use Rattle.verb_bytes.specs.Fields.{most_of_four, most_of_eight}
 use Rattle.verb_bytes.specs.Spelling.{shown_kind}
 use Rattle.std.specs.Int.{w64}
-use Rattle.verb_bytes.specs.Readers.{Reader, done, ◌>>=◌, read1, read2, read3, read4, read5, read6, list_at, nth_case, choice_at, byte_at, option_at, bool_at, such_that, name_at, field_name_at, text_at, key_at, actor_at, number_at, u32_at, moment_at, flags_at, user_at}
+use Rattle.verb_bytes.specs.Readers.{Reader, done, ◌>>=◌, read1, read2, read3, read4, read5, read6, read7, list_at, nth_case, choice_at, byte_at, option_at, bool_at, such_that, name_at, field_name_at, text_at, key_at, actor_at, number_at, u32_at, moment_at, flags_at, user_at}
 
 abbrev pub any_list_at : {A : Type 0} → Reader A → Reader (List A)
 any_list_at one = list_at most_of_four one
@@ -113,6 +119,25 @@ row_at = read4 row_of user_at name_at u64_at (any_list_at entry_at)
 abbrev pub how_at : Reader How
 how_at = choice_at 0 2 (done Replace ∷ done Add ∷ done Take ∷ [])
 
+-- the acts, whose message has a text of at most so many bytes
+abbrev pub act_cases : ℕ → List (Reader Act)
+act_cases most =
+    read2 SetAlias name_at (any_list_at user_at)
+    ∷ read1 DropAlias name_at
+    ∷ read1 SetFilter filter_at
+    ∷ read1 DropFilter name_at
+    ∷ read3 Remove user_at name_at key_at
+    ∷ read3 Give user_at name_at (text_at most)
+    ∷ read1 SetFilter (scoped_at other_scope_at)
+    ∷ []
+
+abbrev pub act_within_at : ℕ → Reader Act
+act_within_at most = choice_at 1 LAST_ACT (act_cases most)
+
+-- one that the operator asked for
+abbrev pub act_at : Reader Act
+act_at = act_within_at MOST_BODY
+
 -- the deeds, whose message has a text of at most so many bytes
 abbrev pub deed_cases : ℕ → List (Reader Deed)
 deed_cases most =
@@ -129,10 +154,13 @@ deed_cases most =
     ∷ read1 Create name_at
     ∷ read2 Rename name_at name_at
     ∷ read2 Delete name_at keys_at
+    ∷ read1 Acts (act_within_at most)
+    ∷ read2 Notice user_at (text_at most)
     ∷ []
 
-abbrev pub deed_at : ℕ → Reader Deed
-deed_at most = choice_at 1 LAST_DEED (deed_cases most)
+-- a deed of a kind up to the last
+abbrev pub deed_at : ℕ → ℕ → Reader Deed
+deed_at last most = choice_at 1 last (deed_cases most)
 
 abbrev pub sight_of : Key → ℕ → Sight
 sight_of k r = record { key = k; rev = r }
@@ -162,25 +190,77 @@ shown_cases most =
 abbrev pub shown_at : ℕ → ℕ → Reader Shown
 shown_at most kind = byte_at kind kind >>= λ n. nth_case n (shown_cases most)
 
-abbrev pub item_of : ℕ → ℕ → Option User → Deed → Shown → Item
-item_of number at by deed shown = record { number = number; at = at; by = by; rev = 0; deed = deed; shown = shown }
+abbrev pub item_of : ℕ → ℕ → Option User → ℕ → Deed → Shown → Item
+item_of number at by rev deed shown = record { number = number; at = at; by = by; rev = rev; deed = deed; shown = shown }
 
 abbrev pub item_at : Reader Item
-item_at = u32_at >>= λ number. moment_at >>= λ at. actor_at >>= λ by. deed_at MOST_BODY >>= λ deed. read1 (item_of number at by deed) (shown_at MOST_KEYS (shown_kind deed))
+item_at = u32_at >>= λ number. moment_at >>= λ at. actor_at >>= λ by. deed_at LAST_DEED MOST_BODY >>= λ deed. read1 (item_of number at by 0 deed) (shown_at MOST_KEYS (shown_kind deed))
 
-abbrev pub act_cases : List (Reader Act)
-act_cases =
-    read2 SetAlias name_at (any_list_at user_at)
-    ∷ read1 DropAlias name_at
-    ∷ read1 SetFilter filter_at
-    ∷ read1 DropFilter name_at
-    ∷ read3 Remove user_at name_at key_at
-    ∷ read3 Give user_at name_at body_at
-    ∷ read1 SetFilter (scoped_at other_scope_at)
+-- an item that is kept, with its rev
+abbrev pub kept_at : Reader Item
+kept_at = u32_at >>= λ number. moment_at >>= λ at. actor_at >>= λ by. u32_at >>= λ rev. deed_at LAST_KEPT_DEED most_of_four >>= λ deed. read1 (item_of number at by rev deed) (shown_at most_of_four (shown_kind deed))
+
+-- ---- what cycles reported
+
+abbrev pub verb_cases : List (Reader UserVerb)
+verb_cases =
+    done verb.Deliver
+    ∷ done verb.Append
+    ∷ done verb.Fetch
+    ∷ done verb.Store
+    ∷ done verb.Copy
+    ∷ done verb.List
+    ∷ done verb.Status
+    ∷ done verb.Select
+    ∷ done verb.Expunge
+    ∷ done verb.Close
+    ∷ done verb.Create
+    ∷ done verb.Rename
+    ∷ done verb.Delete
     ∷ []
 
-abbrev pub act_at : Reader Act
-act_at = choice_at 1 LAST_ACT act_cases
+abbrev pub verb_at : Reader UserVerb
+verb_at = choice_at 1 LAST_DEED verb_cases
+
+abbrev pub reason_cases : List (Reader Reason)
+reason_cases =
+    done reason.Missing
+    ∷ done reason.Changed
+    ∷ done reason.NoName
+    ∷ done reason.Fewer
+    ∷ done reason.Redirected
+    ∷ done reason.Left
+    ∷ done reason.Renamed
+    ∷ done reason.Moved
+    ∷ done reason.Withdrawn
+    ∷ []
+
+abbrev pub reason_at : Reader Reason
+reason_at = choice_at 0 LAST_REASON reason_cases
+
+abbrev pub broken_of : ℕ → User → UserVerb → Option (List ℕ) → Reason → BrokenItem
+broken_of n u v m r = record { number = n; user = u; verb = v; mailbox = m; reason = r }
+
+abbrev pub broken_at : Reader BrokenItem
+broken_at = read5 broken_of u32_at user_at verb_at (option_at name_at) reason_at
+
+abbrev pub stamp_of : User → List ℕ → ℕ → BoxId × ℕ
+stamp_of u n s = (record { user = u; name = n }, s)
+
+abbrev pub stamp_at : Reader (BoxId × ℕ)
+stamp_at = read3 stamp_of user_at name_at u32_at
+
+abbrev pub report_with : ℕ → ℕ → ℕ → List BrokenItem → List ℕ → List (BoxId × ℕ) → List ℕ → Report
+report_with c p k b n r u = record { cycle = c; point = p; kept = k; broken = b; notices = n; renewed = r; unmatched = u }
+
+abbrev pub report_at : Reader Report
+report_at = read7 report_with u32_at u32_at u32_at (any_list_at broken_at) (any_list_at u32_at) (any_list_at stamp_at) (any_list_at u32_at)
+
+abbrev pub keyed_of : List ℕ → Report → List ℕ × Report
+keyed_of k r = (k, r)
+
+abbrev pub keyed_report_at : Reader (List ℕ × Report)
+keyed_report_at = read2 keyed_of name_at report_at
 
 -- ---- records
 
@@ -208,6 +288,18 @@ snapshot_of i a f r = Snapshot i (record { aliases = a; filters = f }) r
 abbrev pub snapshot_at : Reader (List Filter) → Reader JournalRecord
 snapshot_at filters = read4 snapshot_of u32_at aliases_at filters (any_list_at row_at)
 
+abbrev pub base_of : ℕ → Bool → List Alias → List Filter → List (BoxId × Mailbox) → List (BoxId × ℕ) → List (List ℕ × Report) → JournalRecord
+base_of n d a f r s t = Base n d (record { aliases = a; filters = f }) r s t
+
+abbrev pub base_at : Reader JournalRecord
+base_at = read7 base_of u32_at bool_at aliases_at (any_list_at (scoped_at scope_at)) (any_list_at row_at) (any_list_at stamp_at) (any_list_at keyed_report_at)
+
+abbrev pub text_of_body : ℕ → ℕ → List ℕ → JournalRecord
+text_of_body o r t = Text (record { origin = o; rev = r }) t
+
+abbrev pub text_record_at : Reader JournalRecord
+text_record_at = read3 text_of_body u32_at u32_at any_text_at
+
 abbrev pub record_cases : List (Reader JournalRecord)
 record_cases =
     format_at
@@ -218,6 +310,9 @@ record_cases =
     ∷ read1 Upgrade moment_at
     ∷ snapshot_at scoped_filters_at
     ∷ read4 Withdraw u32_at moment_at name_at u32_at
+    ∷ base_at
+    ∷ text_record_at
+    ∷ read1 Kept kept_at
     ∷ []
 
 abbrev pub record_at : Reader JournalRecord

@@ -1,5 +1,5 @@
 -- The fields of each record, in order, and the one spelling that they make.
-use Rattle.std.specs.Prelude.{◌≡◌, ℕ, false, ◌==◌, List, if◌then◌else◌, IsTrue}
+use Rattle.std.specs.Prelude.{◌≡◌, ℕ, Bool, ◌==◌, List, if◌then◌else◌, IsTrue}
 use Rattle.undo_base.specs.declared.keys.Key.{Key}
 use Rattle.undo_base.specs.declared.asks.How.{How}
 use Rattle.undo_base.specs.declared.asks.How.TheVariants.{Replace, Add, Take}
@@ -11,6 +11,7 @@ use Rattle.verb_core.specs.declared.conf.House.{House}
 use Rattle.verb_core.specs.declared.conf.Scope.{Scope}
 use Rattle.verb_core.specs.declared.conf.Scope.TheVariants.{Body, Field as HeaderField, Sender, Recipient}
 use Rattle.verb_core.specs.declared.conf.Conf.{Conf}
+use Rattle.verb_core.specs.declared.mailbox.Body.{Body as BodyId}
 use Rattle.verb_core.specs.declared.mailbox.Entry.{Entry}
 use Rattle.verb_core.specs.declared.mailbox.Mailbox.{Mailbox}
 use Rattle.verb_core.specs.declared.mailbox.BoxId.{BoxId}
@@ -26,11 +27,18 @@ use Rattle.verb_core.specs.declared.item.Shown.{Shown}
 use Rattle.verb_core.specs.declared.item.Shown.TheVariants.{Nothing, Seen, Names as Named, Count, Done, Copied, Put, Left, Way as Went, Moved}
 use Rattle.verb_core.specs.Names.{is_empty}
 use Rattle.verb_core.specs.Filters.{is_of_body, are_of_body}
+use Rattle.paradox.specs.declared.reports.BrokenItem.{BrokenItem}
+use Rattle.paradox.specs.declared.reports.Report.{Report}
+use Rattle.paradox.specs.declared.words.Reason.{Reason}
+use Rattle.paradox.specs.declared.words.Reason.TheVariants as reason
+use Rattle.paradox.specs.declared.words.Verb.{Verb as UserVerb}
+use Rattle.paradox.specs.declared.words.Verb.TheVariants as verb
 use Rattle.verb_bytes.specs.declared.journal.CycleAsk.{CycleAsk}
 use Rattle.verb_bytes.specs.declared.journal.JournalRecord.{JournalRecord}
-use Rattle.verb_bytes.specs.declared.journal.JournalRecord.TheVariants.{Format, Verb, Operator, Cycle, Snapshot, Upgrade, Withdraw}
+use Rattle.verb_bytes.specs.declared.journal.JournalRecord.TheVariants.{Format, Verb, Operator, Cycle, Snapshot, Upgrade, Withdraw, Base, Text, Kept}
+use Rattle.verb_bytes.specs.declared.kinds.TheConstants.{LAST_DEED, LAST_KEPT_DEED, LAST_REASON}
 use Rattle.verb_bytes.specs.declared.write.TheConstants.{MOST_BODY}
-use Rattle.verb_bytes.specs.Fields.{Field, bytes_of, are_in_range, ◌&◌, only_if, byte_field, name_field, field_name_field, text_field, key_field, list_fields, option_fields, bool_field, flags_field, u32_field, u64_field, moment_field, any_text_field, body_field, user_field, actor_field, any_list_fields, record_kind, act_kind, deed_kind}
+use Rattle.verb_bytes.specs.Fields.{Field, bytes_of, are_in_range, ◌&◌, only_if, byte_field, name_field, field_name_field, text_field, key_field, list_fields, option_fields, bool_field, flags_field, u32_field, u64_field, moment_field, any_text_field, body_field, user_field, actor_field, any_list_fields, most_of_four, record_kind, act_kind, deed_kind, deed_kind_to}
 
 -- the keys of an item
 abbrev pub key_list : List Key → List Field
@@ -77,28 +85,40 @@ how_field Replace = byte_field 0 2 0
 how_field Add = byte_field 0 2 1
 how_field Take = byte_field 0 2 2
 
--- a user's deed, whose message has a text of at most so many bytes; an act and a notice are no user's own, and have none
--- of these spellings
-abbrev pub deed_fields_within : ℕ → Deed → List Field
-deed_fields_within most (Deliver from to text) = deed_kind 1 & any_text_field from & list_fields MOST_RECIPIENTS name_field to & text_field most text
-deed_fields_within most (Append mailbox given at text) = deed_kind 2 & name_field mailbox & flags_field given & moment_field at & text_field most text
-deed_fields_within most (Fetch mailbox ks sets_seen shows_body) = deed_kind 3 & name_field mailbox & key_list ks & bool_field sets_seen & bool_field shows_body
-deed_fields_within most (Store mailbox ks how given) = deed_kind 4 & name_field mailbox & key_list ks & how_field how & flags_field given
-deed_fields_within most (Copy mailbox ks target) = deed_kind 5 & name_field mailbox & key_list ks & name_field target
-deed_fields_within most (Names pattern) = deed_kind 6 & any_text_field pattern
-deed_fields_within most (Status mailbox) = deed_kind 7 & name_field mailbox
-deed_fields_within most (Select mailbox) = deed_kind 8 & name_field mailbox
-deed_fields_within most (Expunge mailbox ks) = deed_kind 9 & name_field mailbox & key_list ks
-deed_fields_within most (Close mailbox ks) = deed_kind 10 & name_field mailbox & key_list ks
-deed_fields_within most (Create mailbox) = deed_kind 11 & name_field mailbox
-deed_fields_within most (Rename mailbox target) = deed_kind 12 & name_field mailbox & name_field target
-deed_fields_within most (Delete mailbox ks) = deed_kind 13 & name_field mailbox & key_list ks
-deed_fields_within most (Acts a) = only_if false
-deed_fields_within most (Notice u text) = only_if false
+-- an act, whose message has a text of at most so many bytes
+abbrev pub act_fields_within : ℕ → Act → List Field
+act_fields_within most (SetAlias local users) = act_kind 1 & name_field local & any_list_fields user_field users
+act_fields_within most (DropAlias local) = act_kind 2 & name_field local
+act_fields_within most (SetFilter f) = if is_of_body f.scope then act_kind 3 & filter_fields f else act_kind 7 & scoped_fields 1 f
+act_fields_within most (DropFilter id) = act_kind 4 & name_field id
+act_fields_within most (Remove u mailbox k) = act_kind 5 & user_field u & name_field mailbox & key_field k
+act_fields_within most (Give u mailbox text) = act_kind 6 & user_field u & name_field mailbox & text_field most text
 
--- of an item that a user asked for
+-- one that the operator asked for
+abbrev pub act_fields : Act → List Field
+act_fields a = act_fields_within MOST_BODY a
+
+-- a deed of a kind up to the last, whose message has a text of at most so many bytes
+abbrev pub deed_fields_within : ℕ → ℕ → Deed → List Field
+deed_fields_within last most (Deliver from to text) = deed_kind_to last 1 & any_text_field from & list_fields MOST_RECIPIENTS name_field to & text_field most text
+deed_fields_within last most (Append mailbox given at text) = deed_kind_to last 2 & name_field mailbox & flags_field given & moment_field at & text_field most text
+deed_fields_within last most (Fetch mailbox ks sets_seen shows_body) = deed_kind_to last 3 & name_field mailbox & key_list ks & bool_field sets_seen & bool_field shows_body
+deed_fields_within last most (Store mailbox ks how given) = deed_kind_to last 4 & name_field mailbox & key_list ks & how_field how & flags_field given
+deed_fields_within last most (Copy mailbox ks target) = deed_kind_to last 5 & name_field mailbox & key_list ks & name_field target
+deed_fields_within last most (Names pattern) = deed_kind_to last 6 & any_text_field pattern
+deed_fields_within last most (Status mailbox) = deed_kind_to last 7 & name_field mailbox
+deed_fields_within last most (Select mailbox) = deed_kind_to last 8 & name_field mailbox
+deed_fields_within last most (Expunge mailbox ks) = deed_kind_to last 9 & name_field mailbox & key_list ks
+deed_fields_within last most (Close mailbox ks) = deed_kind_to last 10 & name_field mailbox & key_list ks
+deed_fields_within last most (Create mailbox) = deed_kind_to last 11 & name_field mailbox
+deed_fields_within last most (Rename mailbox target) = deed_kind_to last 12 & name_field mailbox & name_field target
+deed_fields_within last most (Delete mailbox ks) = deed_kind_to last 13 & name_field mailbox & key_list ks
+deed_fields_within last most (Acts a) = deed_kind_to last 14 & act_fields_within most a
+deed_fields_within last most (Notice u text) = deed_kind_to last 15 & user_field u & text_field most text
+
+-- of an item that a user asked for: an act and a notice are no user's own, and have no such spelling
 abbrev pub deed_fields : Deed → List Field
-deed_fields d = deed_fields_within MOST_BODY d
+deed_fields d = deed_fields_within LAST_DEED MOST_BODY d
 
 abbrev pub sight_fields : Sight → List Field
 sight_fields s = key_field s.key & u32_field s.rev
@@ -144,13 +164,48 @@ shown_fields kind s = shown_fields_within MOST_KEYS kind s
 abbrev pub item_fields : Item → List Field
 item_fields i = u32_field i.number & moment_field i.at & actor_field i.by & deed_fields i.deed & shown_fields (shown_kind i.deed) i.shown & only_if (i.rev == 0)
 
-abbrev pub act_fields : Act → List Field
-act_fields (SetAlias local users) = act_kind 1 & name_field local & any_list_fields user_field users
-act_fields (DropAlias local) = act_kind 2 & name_field local
-act_fields (SetFilter f) = if is_of_body f.scope then act_kind 3 & filter_fields f else act_kind 7 & scoped_fields 1 f
-act_fields (DropFilter id) = act_kind 4 & name_field id
-act_fields (Remove u mailbox k) = act_kind 5 & user_field u & name_field mailbox & key_field k
-act_fields (Give u mailbox text) = act_kind 6 & user_field u & name_field mailbox & body_field text
+-- ---- what cycles reported
+
+-- the byte of a verb is that of its deed
+abbrev pub verb_field : UserVerb → List Field
+verb_field verb.Deliver = deed_kind 1
+verb_field verb.Append = deed_kind 2
+verb_field verb.Fetch = deed_kind 3
+verb_field verb.Store = deed_kind 4
+verb_field verb.Copy = deed_kind 5
+verb_field verb.List = deed_kind 6
+verb_field verb.Status = deed_kind 7
+verb_field verb.Select = deed_kind 8
+verb_field verb.Expunge = deed_kind 9
+verb_field verb.Close = deed_kind 10
+verb_field verb.Create = deed_kind 11
+verb_field verb.Rename = deed_kind 12
+verb_field verb.Delete = deed_kind 13
+
+abbrev pub reason_field : Reason → List Field
+reason_field reason.Missing = byte_field 0 LAST_REASON 0
+reason_field reason.Changed = byte_field 0 LAST_REASON 1
+reason_field reason.NoName = byte_field 0 LAST_REASON 2
+reason_field reason.Fewer = byte_field 0 LAST_REASON 3
+reason_field reason.Redirected = byte_field 0 LAST_REASON 4
+reason_field reason.Left = byte_field 0 LAST_REASON 5
+reason_field reason.Renamed = byte_field 0 LAST_REASON 6
+reason_field reason.Moved = byte_field 0 LAST_REASON 7
+reason_field reason.Withdrawn = byte_field 0 LAST_REASON 8
+
+abbrev pub broken_fields : BrokenItem → List Field
+broken_fields b = u32_field b.number & user_field b.user & verb_field b.verb & option_fields name_field b.mailbox & reason_field b.reason
+
+-- a mailbox and its stamp
+abbrev pub stamp_fields : BoxId × ℕ → List Field
+stamp_fields s = user_field s.0.user & name_field s.0.name & u32_field s.1
+
+abbrev pub report_fields : Report → List Field
+report_fields r = u32_field r.cycle & u32_field r.point & u32_field r.kept & any_list_fields broken_fields r.broken & any_list_fields u32_field r.notices & any_list_fields stamp_fields r.renewed & any_list_fields u32_field r.unmatched
+
+-- a report behind the key of its request
+abbrev pub keyed_report_fields : List ℕ × Report → List Field
+keyed_report_fields r = name_field r.0 & report_fields r.1
 
 -- ---- records
 
@@ -175,6 +230,22 @@ snapshot_fields items conf rows =
     if are_of_body conf.filters then record_kind 4 & store_fields filter_fields items conf rows
     else record_kind 6 & store_fields (scoped_fields 0) items conf rows
 
+-- what a journal begins with whose past was cut off: the store before its items, which has filters of any scope
+abbrev pub base_fields : ℕ → Bool → Conf → List (BoxId × Mailbox) → List (BoxId × ℕ) → List (List ℕ × Report) → List Field
+base_fields next deep conf rows stamps reports = u32_field next & bool_field deep & aliases_fields conf.aliases & any_list_fields (scoped_fields 0) conf.filters & any_list_fields row_fields rows & any_list_fields stamp_fields stamps & any_list_fields keyed_report_fields reports
+
+-- the text of a message of that store, of any length
+abbrev pub text_record_fields : BodyId → List ℕ → List Field
+text_record_fields body text = u32_field body.origin & u32_field body.rev & any_text_field text
+
+-- a deed of an item that is kept, with a text of any length
+abbrev pub kept_deed_fields : Deed → List Field
+kept_deed_fields d = deed_fields_within LAST_KEPT_DEED most_of_four d
+
+-- an item that is kept: it may be an act or a notice, may have a rev, and may show any count
+abbrev pub kept_fields : Item → List Field
+kept_fields i = u32_field i.number & moment_field i.at & actor_field i.by & u32_field i.rev & kept_deed_fields i.deed & shown_fields_within most_of_four (shown_kind i.deed) i.shown
+
 abbrev pub record_fields : JournalRecord → List Field
 record_fields (Format h conf) = record_kind 0 & house_fields h conf
 record_fields (Verb i) = record_kind 1 & item_fields i
@@ -183,6 +254,22 @@ record_fields (Cycle number at ask) = record_kind 3 & u32_field number & moment_
 record_fields (Snapshot items conf rows) = snapshot_fields items conf rows
 record_fields (Upgrade at) = record_kind 5 & moment_field at
 record_fields (Withdraw number at key of) = record_kind 7 & u32_field number & moment_field at & name_field key & u32_field of
+record_fields (Base next deep conf rows stamps reports) = record_kind 8 & base_fields next deep conf rows stamps reports
+record_fields (Text body text) = record_kind 9 & text_record_fields body text
+record_fields (Kept i) = record_kind 10 & kept_fields i
+
+-- the byte of its kind
+abbrev pub record_code : JournalRecord → ℕ
+record_code (Format h conf) = 0
+record_code (Verb i) = 1
+record_code (Operator number at a) = 2
+record_code (Cycle number at ask) = 3
+record_code (Snapshot items conf rows) = if are_of_body conf.filters then 4 else 6
+record_code (Upgrade at) = 5
+record_code (Withdraw number at key of) = 7
+record_code (Base next deep conf rows stamps reports) = 8
+record_code (Text body text) = 9
+record_code (Kept i) = 10
 
 -- each of its fields is in its range
 abbrev pub HasSpelling : JournalRecord → Type 0

@@ -1,21 +1,22 @@
 //! Records, read from their bytes.
 ghost use Rattle.std.specs.Prelude.{◌≡◌, ◌≤◌, ◌-◌, Ok};
 ghost use Rattle.verb_bytes.specs.declared.journal.JournalRecord.{JournalRecord};
-ghost use Rattle.verb_bytes.specs.declared.journal.JournalRecord.TheVariants.{Verb, Operator, Cycle, Upgrade, Withdraw};
+ghost use Rattle.verb_bytes.specs.declared.journal.JournalRecord.TheVariants.{Verb, Operator, Cycle, Upgrade, Withdraw, Kept};
 ghost use Rattle.verb_bytes.specs.Readers.{Gives, nth_case, read1, read3, read4, u32_at, moment_at, name_at};
 ghost use Rattle.verb_bytes.specs.Decoding.{Decodes, IsThis};
-ghost use Rattle.verb_bytes.specs.Reading.{record_cases, record_at, any_list_at, filter_at, scoped_filters_at, snapshot_at, act_at, item_at, cycle_ask_at, AnswersAll};
+ghost use Rattle.verb_bytes.specs.Reading.{record_cases, record_at, any_list_at, base_at, filter_at, kept_at, text_record_at, scoped_filters_at, snapshot_at, act_at, item_at, cycle_ask_at, AnswersAll};
 ghost use Rattle.verb_bytes.specs.Spelling.{Spells};
 
 use crate::cursor::{Cursor, Stop};
+use crate::items::read_kept;
 use crate::kinds::{LAST_RECORD, read_record_kind};
 use crate::part::{Part, read_list};
-use crate::scopes::read_scoped_filters;
+use crate::scopes::{read_scoped_filters, read_scoped_list};
 use crate::settings::read_house;
 use crate::{CycleAsk, JournalRecord};
 use std::alloc::Global;
 use undo_base::LAST_MOMENT;
-use verb_core::{Act, Conf, Item};
+use verb_core::{Act, Body, Conf, Item};
 
 /// Why bytes are not read as a record.
 #[derive(Clone, Copy, Debug, PartialEq, Eq)]
@@ -112,6 +113,45 @@ fn read_snapshot(alloc: Global, cursor: &mut Cursor<'_>) -> Result<JournalRecord
     Ok(JournalRecord::Snapshot { items, conf, rows })
 }
 
+fn read_base(alloc: Global, cursor: &mut Cursor<'_>) -> Result<JournalRecord, Stop>
+    ensures { Gives base_at cursor.old.rest.now cursor.new.rest.now result }
+{
+    let next = cursor.u32(u32::MAX)?;
+    let deep = cursor.bool()?;
+    let aliases = read_list(alloc, u32::MAX, cursor)?;
+    let filters = read_scoped_list(alloc, cursor)?;
+    let rows = read_list(alloc, u32::MAX, cursor)?;
+    let stamps = read_list(alloc, u32::MAX, cursor)?;
+    let reports = read_list(alloc, u32::MAX, cursor)?;
+    Ok(JournalRecord::Base {
+        next,
+        deep,
+        conf: Conf { aliases, filters },
+        rows,
+        stamps,
+        reports,
+    })
+}
+
+fn read_text(alloc: Global, cursor: &mut Cursor<'_>) -> Result<JournalRecord, Stop>
+    ensures { Gives text_record_at cursor.old.rest.now cursor.new.rest.now result }
+{
+    let origin = cursor.u32(u32::MAX)?;
+    let rev = cursor.u32(u32::MAX)?;
+    let text = cursor.text(alloc, u32::MAX)?;
+    Ok(JournalRecord::Text {
+        body: Body { origin, rev },
+        text,
+    })
+}
+
+fn read_kept_record(alloc: Global, cursor: &mut Cursor<'_>) -> Result<JournalRecord, Stop>
+    ensures { Gives (read1 Kept kept_at) cursor.old.rest.now cursor.new.rest.now result }
+{
+    let item = read_kept(alloc, cursor)?;
+    Ok(JournalRecord::Kept(item))
+}
+
 fn read_case(alloc: Global, kind: u8, cursor: &mut Cursor<'_>) -> Result<JournalRecord, Stop>
     requires { kind ≤ LAST_RECORD }
     ensures { Gives (nth_case (kind - 0) record_cases) cursor.old.rest.now cursor.new.rest.now result }
@@ -124,7 +164,10 @@ fn read_case(alloc: Global, kind: u8, cursor: &mut Cursor<'_>) -> Result<Journal
         4 => read_snapshot(alloc, cursor),
         5 => read_upgrade(cursor),
         6 => read_scoped_snapshot(alloc, cursor),
-        _ => read_withdraw(alloc, cursor),
+        7 => read_withdraw(alloc, cursor),
+        8 => read_base(alloc, cursor),
+        9 => read_text(alloc, cursor),
+        _ => read_kept_record(alloc, cursor),
     }
 }
 

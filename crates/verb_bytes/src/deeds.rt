@@ -1,22 +1,23 @@
 //! Deeds as parts of records.
 ghost use Rattle.std.specs.Prelude.{◌≤◌, ◌-◌};
-ghost use Rattle.verb_core.specs.declared.item.Deed.TheVariants.{Deliver, Append, Fetch, Store, Copy, List as Names, Status, Select, Expunge, Close, Create, Rename, Delete};
-ghost use Rattle.verb_bytes.specs.Fields.{◌&◌, deed_kind, name_field};
-ghost use Rattle.verb_bytes.specs.Readers.{Gives, nth_case, read1, read2, read3, read4, list_at, name_at, text_at, flags_at, moment_at, bool_at};
-ghost use Rattle.verb_bytes.specs.Reading.{deed_at, deed_cases, any_text_at, keys_at, how_at};
-ghost use Rattle.verb_bytes.specs.Spelling.{deed_fields, deed_fields_within, how_field, key_list};
+ghost use Rattle.verb_core.specs.declared.item.Deed.TheVariants.{Deliver, Append, Fetch, Store, Copy, List as Names, Status, Select, Expunge, Close, Create, Rename, Delete, Act as Acts, Notice};
+ghost use Rattle.verb_bytes.specs.Fields.{◌&◌, deed_kind_to, name_field};
+ghost use Rattle.verb_bytes.specs.Readers.{Gives, nth_case, read1, read2, read3, read4, list_at, name_at, text_at, flags_at, moment_at, bool_at, user_at};
+ghost use Rattle.verb_bytes.specs.Reading.{act_within_at, deed_at, deed_cases, any_text_at, keys_at, how_at};
+ghost use Rattle.verb_bytes.specs.Spelling.{deed_fields_within, how_field, key_list};
 ghost use Rattle.verb_bytes.specs.Writing.{Puts};
 
+use crate::acts::{put_act, read_act};
 use crate::cursor::{Cursor, Stop};
-use crate::kinds::{LAST_DEED, put_deed_kind, read_deed_kind};
+use crate::kinds::{LAST_KEPT_DEED, put_deed_kind, read_deed_kind};
 use crate::part::{put_list, read_list};
 use crate::write::{
-    MOST_LISTED, MOST_TO, Unwritten, put_bool, put_byte, put_condition, put_flags, put_name,
-    put_text, put_u64,
+    MOST_LISTED, MOST_TO, Unwritten, put_bool, put_byte, put_flags, put_name, put_text, put_u64,
+    put_user,
 };
 use std::alloc::Global;
-use undo_base::{Flags, How, Keys, LAST_MOMENT, Name, Names, Text};
-use verb_core::Deed;
+use undo_base::{Flags, How, Keys, LAST_MOMENT, Name, Names, Text, User};
+use verb_core::{Act, Deed};
 
 /// Writes how flags change.
 fn put_how(out: &mut Text, how: How) -> Result<(), Unwritten>
@@ -43,60 +44,66 @@ fn read_how(cursor: &mut Cursor<'_>) -> Result<How, Stop>
     Ok(How::Take)
 }
 
-/// Writes a deed, whose message has a text of at most so many bytes.
+/// Writes a deed of a kind up to the last, whose message has a text of at most so many bytes.
 #[tactic(auto, using(crate::proofs::Puts::list_steps))]
-pub(crate) fn put_deed(most: u32, deed: &Deed, out: &mut Text) -> Result<(), Unwritten>
-    ensures { Puts (deed_fields_within most deed.now) out.old out.new result }
+pub(crate) fn put_deed(last: u8, most: u32, deed: &Deed, out: &mut Text) -> Result<(), Unwritten>
+    ensures { Puts (deed_fields_within last most deed.now) out.old out.new result }
 {
     match deed {
-        Deed::Deliver { from, to, text } => put_deliver(most, from, to, text, out),
+        Deed::Deliver { from, to, text } => put_deliver(last, most, from, to, text, out),
         Deed::Append {
             mailbox,
             flags,
             moment,
             text,
-        } => put_append(most, mailbox, *flags, *moment, text, out),
+        } => put_append(last, most, mailbox, *flags, *moment, text, out),
         Deed::Fetch {
             mailbox,
             keys,
             sets_seen,
             shows_body,
-        } => put_fetch(mailbox, keys, *sets_seen, *shows_body, out),
+        } => put_fetch(last, mailbox, keys, *sets_seen, *shows_body, out),
         Deed::Store {
             mailbox,
             keys,
             how,
             flags,
-        } => put_store(mailbox, keys, *how, *flags, out),
+        } => put_store(last, mailbox, keys, *how, *flags, out),
         Deed::Copy {
             mailbox,
             keys,
             target,
-        } => put_copy(mailbox, keys, target, out),
-        Deed::List { pattern } => put_listing(pattern, out),
-        Deed::Status { mailbox } => put_mailbox(7, mailbox, out),
-        Deed::Select { mailbox } => put_mailbox(8, mailbox, out),
-        Deed::Expunge { mailbox, keys } => put_keys(9, mailbox, keys, out),
-        Deed::Close { mailbox, keys } => put_keys(10, mailbox, keys, out),
-        Deed::Create { mailbox } => put_mailbox(11, mailbox, out),
-        Deed::Rename { mailbox, target } => put_rename(mailbox, target, out),
-        Deed::Delete { mailbox, keys } => put_keys(13, mailbox, keys, out),
-        Deed::Act(_) => put_condition(out, false),
-        Deed::Notice { .. } => put_condition(out, false),
+        } => put_copy(last, mailbox, keys, target, out),
+        Deed::List { pattern } => put_listing(last, pattern, out),
+        Deed::Status { mailbox } => put_mailbox(last, 7, mailbox, out),
+        Deed::Select { mailbox } => put_mailbox(last, 8, mailbox, out),
+        Deed::Expunge { mailbox, keys } => put_keys(last, 9, mailbox, keys, out),
+        Deed::Close { mailbox, keys } => put_keys(last, 10, mailbox, keys, out),
+        Deed::Create { mailbox } => put_mailbox(last, 11, mailbox, out),
+        Deed::Rename { mailbox, target } => put_rename(last, mailbox, target, out),
+        Deed::Delete { mailbox, keys } => put_keys(last, 13, mailbox, keys, out),
+        Deed::Act(act) => put_act_deed(last, most, act, out),
+        Deed::Notice { user, text } => put_notice(last, most, *user, text, out),
     }
 }
 
-/// Reads a deed, whose message has a text of at most so many bytes.
-pub(crate) fn read_deed(alloc: Global, most: u32, cursor: &mut Cursor<'_>) -> Result<Deed, Stop>
-    ensures { Gives (deed_at most) cursor.old.rest.now cursor.new.rest.now result }
+/// Reads a deed of a kind up to the last, whose message has a text of at most so many bytes.
+pub(crate) fn read_deed(
+    alloc: Global,
+    last: u8,
+    most: u32,
+    cursor: &mut Cursor<'_>,
+) -> Result<Deed, Stop>
+    requires { last ≤ LAST_KEPT_DEED }
+    ensures { Gives (deed_at last most) cursor.old.rest.now cursor.new.rest.now result }
 {
-    let kind = read_deed_kind(cursor)?;
+    let kind = read_deed_kind(cursor, last)?;
     read_case(alloc, most, kind, cursor)
 }
 
 fn read_case(alloc: Global, most: u32, kind: u8, cursor: &mut Cursor<'_>) -> Result<Deed, Stop>
     requires first { 1 ≤ kind }
-    requires last { kind ≤ LAST_DEED }
+    requires last { kind ≤ LAST_KEPT_DEED }
     ensures { Gives (nth_case (kind - 1) (deed_cases most)) cursor.old.rest.now cursor.new.rest.now result }
 {
     match kind {
@@ -112,7 +119,9 @@ fn read_case(alloc: Global, most: u32, kind: u8, cursor: &mut Cursor<'_>) -> Res
         10 => read_close(alloc, cursor),
         11 => read_create(alloc, cursor),
         12 => read_rename(alloc, cursor),
-        _ => read_delete(alloc, cursor),
+        13 => read_delete(alloc, cursor),
+        14 => read_act_deed(alloc, most, cursor),
+        _ => read_notice(alloc, most, cursor),
     }
 }
 
@@ -243,17 +252,33 @@ fn read_delete(alloc: Global, cursor: &mut Cursor<'_>) -> Result<Deed, Stop>
     Ok(Deed::Delete { mailbox, keys })
 }
 
+fn read_act_deed(alloc: Global, most: u32, cursor: &mut Cursor<'_>) -> Result<Deed, Stop>
+    ensures { Gives (read1 Acts (act_within_at most)) cursor.old.rest.now cursor.new.rest.now result }
+{
+    let act = read_act(alloc, most, cursor)?;
+    Ok(Deed::Act(act))
+}
+
+fn read_notice(alloc: Global, most: u32, cursor: &mut Cursor<'_>) -> Result<Deed, Stop>
+    ensures { Gives (read2 Notice user_at (text_at most)) cursor.old.rest.now cursor.new.rest.now result }
+{
+    let user = cursor.user()?;
+    let text = cursor.text(alloc, most)?;
+    Ok(Deed::Notice { user, text })
+}
+
 #[tactic(auto, using(crate::proofs::Puts::list_steps))]
 fn put_deliver(
+    last: u8,
     most: u32,
     from: &Text,
     to: &Names,
     text: &Text,
     out: &mut Text,
 ) -> Result<(), Unwritten>
-    ensures { Puts (deed_fields_within most (Deliver from.now to.now text.now)) out.old out.new result }
+    ensures { Puts (deed_fields_within last most (Deliver from.now to.now text.now)) out.old out.new result }
 {
-    put_deed_kind(out, 1)?;
+    put_deed_kind(out, last, 1)?;
     put_text(out, u32::MAX, from)?;
     put_list(MOST_TO, to, out)?;
     put_text(out, most, text)
@@ -261,6 +286,7 @@ fn put_deliver(
 
 #[tactic(auto, using(crate::proofs::Puts::list_steps))]
 fn put_append(
+    last: u8,
     most: u32,
     mailbox: &Name,
     flags: Flags,
@@ -268,9 +294,9 @@ fn put_append(
     text: &Text,
     out: &mut Text,
 ) -> Result<(), Unwritten>
-    ensures { Puts (deed_fields_within most (Append mailbox.now flags moment text.now)) out.old out.new result }
+    ensures { Puts (deed_fields_within last most (Append mailbox.now flags moment text.now)) out.old out.new result }
 {
-    put_deed_kind(out, 2)?;
+    put_deed_kind(out, last, 2)?;
     put_name(out, mailbox)?;
     put_flags(out, flags)?;
     put_u64(out, LAST_MOMENT, moment)?;
@@ -279,15 +305,16 @@ fn put_append(
 
 #[tactic(auto, using(crate::proofs::Puts::list_steps))]
 fn put_fetch(
+    last: u8,
     mailbox: &Name,
     keys: &Keys,
     sets_seen: bool,
     shows_body: bool,
     out: &mut Text,
 ) -> Result<(), Unwritten>
-    ensures { Puts (deed_fields (Fetch mailbox.now keys.now sets_seen shows_body)) out.old out.new result }
+    ensures { Puts (deed_fields_within last 0 (Fetch mailbox.now keys.now sets_seen shows_body)) out.old out.new result }
 {
-    put_deed_kind(out, 3)?;
+    put_deed_kind(out, last, 3)?;
     put_name(out, mailbox)?;
     put_list(MOST_LISTED, keys, out)?;
     put_bool(out, sets_seen)?;
@@ -296,15 +323,16 @@ fn put_fetch(
 
 #[tactic(auto, using(crate::proofs::Puts::list_steps))]
 fn put_store(
+    last: u8,
     mailbox: &Name,
     keys: &Keys,
     how: How,
     flags: Flags,
     out: &mut Text,
 ) -> Result<(), Unwritten>
-    ensures { Puts (deed_fields (Store mailbox.now keys.now how flags)) out.old out.new result }
+    ensures { Puts (deed_fields_within last 0 (Store mailbox.now keys.now how flags)) out.old out.new result }
 {
-    put_deed_kind(out, 4)?;
+    put_deed_kind(out, last, 4)?;
     put_name(out, mailbox)?;
     put_list(MOST_LISTED, keys, out)?;
     put_how(out, how)?;
@@ -312,47 +340,78 @@ fn put_store(
 }
 
 #[tactic(auto, using(crate::proofs::Puts::list_steps))]
-fn put_copy(mailbox: &Name, keys: &Keys, target: &Name, out: &mut Text) -> Result<(), Unwritten>
-    ensures { Puts (deed_fields (Copy mailbox.now keys.now target.now)) out.old out.new result }
+fn put_copy(
+    last: u8,
+    mailbox: &Name,
+    keys: &Keys,
+    target: &Name,
+    out: &mut Text,
+) -> Result<(), Unwritten>
+    ensures { Puts (deed_fields_within last 0 (Copy mailbox.now keys.now target.now)) out.old out.new result }
 {
-    put_deed_kind(out, 5)?;
+    put_deed_kind(out, last, 5)?;
     put_name(out, mailbox)?;
     put_list(MOST_LISTED, keys, out)?;
     put_name(out, target)
 }
 
 #[tactic(auto, using(crate::proofs::Puts::list_steps))]
-fn put_listing(pattern: &Text, out: &mut Text) -> Result<(), Unwritten>
-    ensures { Puts (deed_fields (Names pattern.now)) out.old out.new result }
+fn put_listing(last: u8, pattern: &Text, out: &mut Text) -> Result<(), Unwritten>
+    ensures { Puts (deed_fields_within last 0 (Names pattern.now)) out.old out.new result }
 {
-    put_deed_kind(out, 6)?;
+    put_deed_kind(out, last, 6)?;
     put_text(out, u32::MAX, pattern)
 }
 
 #[tactic(auto, using(crate::proofs::Puts::list_steps))]
-fn put_rename(mailbox: &Name, target: &Name, out: &mut Text) -> Result<(), Unwritten>
-    ensures { Puts (deed_fields (Rename mailbox.now target.now)) out.old out.new result }
+fn put_rename(last: u8, mailbox: &Name, target: &Name, out: &mut Text) -> Result<(), Unwritten>
+    ensures { Puts (deed_fields_within last 0 (Rename mailbox.now target.now)) out.old out.new result }
 {
-    put_deed_kind(out, 12)?;
+    put_deed_kind(out, last, 12)?;
     put_name(out, mailbox)?;
     put_name(out, target)
 }
 
 /// Writes a deed of one mailbox.
 #[tactic(auto, using(crate::proofs::Puts::list_steps))]
-fn put_mailbox(kind: u8, mailbox: &Name, out: &mut Text) -> Result<(), Unwritten>
-    ensures { Puts (deed_kind kind & name_field mailbox.now) out.old out.new result }
+fn put_mailbox(last: u8, kind: u8, mailbox: &Name, out: &mut Text) -> Result<(), Unwritten>
+    ensures { Puts (deed_kind_to last kind & name_field mailbox.now) out.old out.new result }
 {
-    put_deed_kind(out, kind)?;
+    put_deed_kind(out, last, kind)?;
     put_name(out, mailbox)
 }
 
 /// Writes a deed of one mailbox and some of its keys.
 #[tactic(auto, using(crate::proofs::Puts::list_steps))]
-fn put_keys(kind: u8, mailbox: &Name, keys: &Keys, out: &mut Text) -> Result<(), Unwritten>
-    ensures { Puts (deed_kind kind & name_field mailbox.now & key_list keys.now) out.old out.new result }
+fn put_keys(
+    last: u8,
+    kind: u8,
+    mailbox: &Name,
+    keys: &Keys,
+    out: &mut Text,
+) -> Result<(), Unwritten>
+    ensures { Puts (deed_kind_to last kind & name_field mailbox.now & key_list keys.now) out.old out.new result }
 {
-    put_deed_kind(out, kind)?;
+    put_deed_kind(out, last, kind)?;
     put_name(out, mailbox)?;
     put_list(MOST_LISTED, keys, out)
+}
+
+/// Writes an act of the operator.
+#[tactic(auto, using(crate::proofs::Puts::list_steps))]
+fn put_act_deed(last: u8, most: u32, act: &Act, out: &mut Text) -> Result<(), Unwritten>
+    ensures { Puts (deed_fields_within last most (Acts act.now)) out.old out.new result }
+{
+    put_deed_kind(out, last, 14)?;
+    put_act(most, act, out)
+}
+
+/// Writes a notice.
+#[tactic(auto, using(crate::proofs::Puts::list_steps))]
+fn put_notice(last: u8, most: u32, user: User, text: &Text, out: &mut Text) -> Result<(), Unwritten>
+    ensures { Puts (deed_fields_within last most (Notice user text.now)) out.old out.new result }
+{
+    put_deed_kind(out, last, 15)?;
+    put_user(out, user)?;
+    put_text(out, most, text)
 }

@@ -1,18 +1,20 @@
 //! Records, written as their bytes.
 ghost use Rattle.std.specs.Prelude.{◌≡◌, IfOk};
-ghost use Rattle.verb_bytes.specs.declared.journal.JournalRecord.TheVariants.{Verb, Operator, Cycle, Snapshot, Upgrade, Withdraw};
+ghost use Rattle.verb_bytes.specs.declared.journal.JournalRecord.TheVariants.{Verb, Operator, Cycle, Snapshot, Upgrade, Withdraw, Base, Text as TextRecord, Kept};
 ghost use Rattle.verb_bytes.specs.Spelling.{ask_fields, filter_fields, scoped_fields, store_fields, record_fields, record_bytes, HasSpelling};
 ghost use Rattle.verb_bytes.specs.Writing.{Encodes, Puts};
 
+use crate::items::put_kept;
 use crate::kinds::put_record_kind;
 use crate::part::{Part, put_list, put_slice};
 use crate::scopes::put_scoped_filters;
 use crate::settings::put_house;
-use crate::write::{Unwritten, put_name, put_u32, put_u64};
+use crate::write::{Unwritten, put_bool, put_name, put_text, put_u32, put_u64};
 use crate::{CycleAsk, JournalRecord};
+use paradox::Report;
 use std::alloc::Global;
 use undo_base::{LAST_MOMENT, Name, NoMemory, Text};
-use verb_core::{Act, BoxId, Conf, Item, Mailbox, are_of_body};
+use verb_core::{Act, Body, BoxId, Conf, Item, Mailbox, are_of_body};
 
 #[tactic(auto, using(crate::proofs::Puts::list_steps))]
 fn put_ask(ask: &CycleAsk, out: &mut Text) -> Result<(), Unwritten>
@@ -123,6 +125,47 @@ fn put_withdraw(number: u32, at: u64, key: &Name, of: u32, out: &mut Text) -> Re
 }
 
 #[tactic(auto, using(crate::proofs::Puts::list_steps))]
+fn put_base(
+    next: u32,
+    deep: bool,
+    conf: &Conf,
+    rows: &[(BoxId, Mailbox)],
+    stamps: &[(BoxId, u32)],
+    reports: &[(Name, Report)],
+    out: &mut Text,
+) -> Result<(), Unwritten>
+    ensures { Puts (record_fields (Base next deep conf.now rows.now stamps.now reports.now)) out.old out.new result }
+{
+    let Conf { aliases, filters } = conf;
+    put_record_kind(out, 8)?;
+    put_u32(out, u32::MAX, next)?;
+    put_bool(out, deep)?;
+    put_list(u32::MAX, aliases, out)?;
+    put_scoped_filters(filters, out)?;
+    put_slice(u32::MAX, rows, out)?;
+    put_slice(u32::MAX, stamps, out)?;
+    put_slice(u32::MAX, reports, out)
+}
+
+#[tactic(auto, using(crate::proofs::Puts::list_steps))]
+fn put_text_record(body: Body, text: &Text, out: &mut Text) -> Result<(), Unwritten>
+    ensures { Puts (record_fields (TextRecord body text.now)) out.old out.new result }
+{
+    put_record_kind(out, 9)?;
+    put_u32(out, u32::MAX, body.origin)?;
+    put_u32(out, u32::MAX, body.rev)?;
+    put_text(out, u32::MAX, text)
+}
+
+#[tactic(auto, using(crate::proofs::Puts::list_steps))]
+fn put_kept_record(item: &Item, out: &mut Text) -> Result<(), Unwritten>
+    ensures { Puts (record_fields (Kept item.now)) out.old out.new result }
+{
+    put_record_kind(out, 10)?;
+    put_kept(item, out)
+}
+
+#[tactic(auto, using(crate::proofs::Puts::list_steps))]
 fn put_record(what: &JournalRecord, out: &mut Text) -> Result<(), Unwritten>
     ensures { Puts (record_fields what.now) out.old out.new result }
 {
@@ -147,6 +190,24 @@ fn put_record(what: &JournalRecord, out: &mut Text) -> Result<(), Unwritten>
             key,
             of,
         } => put_withdraw(*number, *at, key, *of, out),
+        JournalRecord::Base {
+            next,
+            deep,
+            conf,
+            rows,
+            stamps,
+            reports,
+        } => put_base(
+            *next,
+            *deep,
+            conf,
+            rows.as_slice(),
+            stamps.as_slice(),
+            reports.as_slice(),
+            out,
+        ),
+        JournalRecord::Text { body, text } => put_text_record(*body, text, out),
+        JournalRecord::Kept(item) => put_kept_record(item, out),
     }
 }
 
@@ -221,6 +282,41 @@ pub fn spell_withdraw(
 {
     let mut out = Text::new(alloc);
     put_withdraw(number, at, key, of, &mut out)?;
+    Ok(out)
+}
+
+/// The same of the record of a base.
+pub fn spell_base(
+    alloc: Global,
+    next: u32,
+    deep: bool,
+    conf: &Conf,
+    rows: &[(BoxId, Mailbox)],
+    stamps: &[(BoxId, u32)],
+    reports: &[(Name, Report)],
+) -> Result<Text, Unwritten>
+    ensures { Encodes (Base next deep conf.now rows.now stamps.now reports.now) result }
+{
+    let mut out = Text::new(alloc);
+    put_base(next, deep, conf, rows, stamps, reports, &mut out)?;
+    Ok(out)
+}
+
+/// The same of the record of a body's text.
+pub fn spell_text(alloc: Global, body: Body, text: &Text) -> Result<Text, Unwritten>
+    ensures { Encodes (TextRecord body text.now) result }
+{
+    let mut out = Text::new(alloc);
+    put_text_record(body, text, &mut out)?;
+    Ok(out)
+}
+
+/// The same of the record of an item that is kept.
+pub fn spell_kept(alloc: Global, item: &Item) -> Result<Text, Unwritten>
+    ensures { Encodes (Kept item.now) result }
+{
+    let mut out = Text::new(alloc);
+    put_kept_record(item, &mut out)?;
     Ok(out)
 }
 

@@ -1,6 +1,7 @@
 //! What the journal records.
+use paradox::Reports;
 use undo_base::{Name, Numbers, Sequence, Text};
-use verb_core::{Act, Conf, House, Item, Rows};
+use verb_core::{Act, Body, Conf, House, Item, Rows, Stamps};
 
 /// Numbers of items, each with its new text.
 pub type Replaces = Sequence<(u32, Text)>;
@@ -19,7 +20,8 @@ pub struct CycleAsk {
 }
 
 /// One record. A `Verb` is a user's item, with rev 0; from an `Upgrade` on names may have superiors; a `Withdraw` takes back the
-/// cycle of the number `of`.
+/// cycle of the number `of`. Where the past was cut off, a `Base` is the store before the first item, the `Text`s are of its
+/// messages, and each `Kept` is an item as it was when the past was cut off, whoever did it.
 #[derive(Drop)]
 pub enum JournalRecord {
     Format(House, Conf),
@@ -48,4 +50,17 @@ pub enum JournalRecord {
         key: Name,
         of: u32,
     },
+    Base {
+        next: u32,
+        deep: bool,
+        conf: Conf,
+        rows: Rows,
+        stamps: Stamps,
+        reports: Reports,
+    },
+    Text {
+        body: Body,
+        text: Text,
+    },
+    Kept(Item),
 }

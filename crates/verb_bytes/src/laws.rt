@@ -1,5 +1,5 @@
 //! What holds of every record and its bytes. These functions do nothing: their contracts are laws of the definitions.
-ghost use Rattle.std.specs.Prelude.{◌≡◌, ℕ, ◌≤◌, ◌⊎◌, List, IsTrue, length};
+ghost use Rattle.std.specs.Prelude.{◌≡◌, ℕ, ◌≤◌, ◌⊎◌, ◌∷◌, List, IsTrue, length};
 ghost use Rattle.std.specs.List.{AllZip};
 ghost use Rattle.undo_base.specs.declared.limits.TheConstants.{LAST_MOMENT, MOST_KEYS};
 ghost use Rattle.undo_base.specs.Name.{IsName};
@@ -12,12 +12,12 @@ ghost use Rattle.verb_core.specs.declared.item.Item.{Item};
 ghost use Rattle.verb_core.specs.Items.{has_form, keys_in};
 ghost use Rattle.verb_bytes.specs.declared.journal.CycleAsk.{CycleAsk};
 ghost use Rattle.verb_bytes.specs.declared.journal.JournalRecord.{JournalRecord};
-ghost use Rattle.verb_bytes.specs.declared.journal.JournalRecord.TheVariants.{Format, Verb, Operator, Cycle, Snapshot, Upgrade, Withdraw};
+ghost use Rattle.verb_bytes.specs.declared.journal.JournalRecord.TheVariants.{Format, Verb, Operator, Cycle, Snapshot, Upgrade, Withdraw, Kept};
 ghost use Rattle.verb_bytes.specs.Decoding.{IsBytes, IsRefused, IsRefusedAt, IsSpelled};
 ghost use Rattle.verb_bytes.specs.Fields.{most_of_four};
 ghost use Rattle.verb_bytes.specs.Limits.{delivery, AreMany, IsAct, IsAlias, IsAsked, IsCycleAsk, IsFilter, IsMail, IsOpening, IsRow};
 ghost use Rattle.verb_bytes.specs.Places.{text_places_of, texts_in, LiesThere};
-ghost use Rattle.verb_bytes.specs.Spelling.{record_bytes, HasSpelling, Spells};
+ghost use Rattle.verb_bytes.specs.Spelling.{record_bytes, record_code, HasSpelling, Spells};
 
 /// Bytes spell one record at most, and a record has one spelling. Bytes spell a record or are refused, at one place.
 pub fn one_spelling()
@@ -73,6 +73,17 @@ pub fn spelled_items_are_formed()
     ensures form { (item : Item) → HasSpelling (Verb item) → IsTrue (has_form item.deed item.shown) }
     ensures keys { (item : Item) → HasSpelling (Verb item) → length (keys_in item.deed) ≤ MOST_KEYS }
     ensures rev { (item : Item) → HasSpelling (Verb item) → item.rev ≡ 0 }
+{}
+
+/// The same of an item that is kept, but for its rev.
+pub fn spelled_kept_items_are_formed()
+    ensures form { (item : Item) → HasSpelling (Kept item) → IsTrue (has_form item.deed item.shown) }
+    ensures keys { (item : Item) → HasSpelling (Kept item) → length (keys_in item.deed) ≤ MOST_KEYS }
+{}
+
+/// A record's bytes begin with its kind.
+pub fn records_begin_with_their_kind()
+    ensures { (what : JournalRecord) → (rest : List ℕ) × (record_bytes what ≡ record_code what ∷ rest) }
 {}
 
 /// The moment of a cycle whose record has a spelling is within the years that dates can say.

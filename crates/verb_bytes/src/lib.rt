@@ -1,7 +1,7 @@
 //! Records of the journal, and their one spelling.
 //!
 //! `journal` is what is recorded; `encode` and `decode` write and read it. Below them `part` is what stands in lists,
-//! `simple`, `settings`, `mailboxes`, `acts`, `deeds`, `shown` and `items` are the parts, `kinds` the byte that says
+//! `simple`, `settings`, `mailboxes`, `acts`, `deeds`, `shown`, `items` and `reports` are the parts, `kinds` the byte that says
 //! which record, act or deed follows, and `write` and `cursor` the fields. Of `specs/`, Fields, Spelling, Writing and
 //! Decoding say the fields of each record, what is written for it and what bytes are read as; Readers and Reading, how
 //! the parts read. `places` tells where the texts of messages lie in a record's bytes, which Places says by the fields
@@ -23,6 +23,7 @@ pub mod laws;
 mod mailboxes;
 mod part;
 mod places;
+mod reports;
 mod scopes;
 mod settings;
 mod shown;
@@ -31,11 +32,12 @@ mod write;
 
 pub use decode::{BadBytes, decode_record};
 pub use encode::{
-    encode_record, spell_act, spell_cycle, spell_item, spell_record, spell_snapshot, spell_upgrade,
-    spell_withdraw,
+    encode_record, spell_act, spell_base, spell_cycle, spell_item, spell_kept, spell_record,
+    spell_snapshot, spell_text, spell_upgrade, spell_withdraw,
 };
 pub use journal::{Acts, CycleAsk, JournalRecord, Replaces};
 pub use places::{
-    TextPlace, TextPlaces, act_text_from, ask_text_places, item_text_from, text_places,
+    TextPlace, TextPlaces, act_text_from, ask_text_places, body_text_from, item_text_from,
+    kept_text_from, text_places,
 };
 pub use write::Unwritten;

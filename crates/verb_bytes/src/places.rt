@@ -4,12 +4,13 @@ ghost use Rattle.std.specs.List.{flat_map, AllZip};
 ghost use Rattle.std.specs.Option.{option_to_list};
 ghost use Rattle.undo_base.specs.declared.keys.Flags.{Flags};
 ghost use Rattle.undo_base.specs.declared.keys.User.{User};
+ghost use Rattle.verb_core.specs.declared.mailbox.Body.{Body};
 ghost use Rattle.verb_core.specs.declared.item.Act.TheVariants.{Give, SetFilter};
 ghost use Rattle.verb_core.specs.declared.item.Deed.TheVariants.{Act as Acts};
 ghost use Rattle.verb_core.specs.Items.{text_in};
-ghost use Rattle.verb_bytes.specs.declared.journal.JournalRecord.TheVariants.{Verb, Operator, Cycle};
-ghost use Rattle.verb_bytes.specs.Fields.{◌&◌, act_kind, any_text_field, deed_kind, flags_field, list_fields, moment_field, name_field, option_fields, user_field};
-ghost use Rattle.verb_bytes.specs.Places.{act_place, first_from, given_texts, placed, places_along, replaced_texts, size_of, text_places_of, IsTextAt, LiesThere};
+ghost use Rattle.verb_bytes.specs.declared.journal.JournalRecord.TheVariants.{Verb, Operator, Cycle, Text as TextRecord, Kept};
+ghost use Rattle.verb_bytes.specs.Fields.{◌&◌, act_kind, any_text_field, deed_kind_to, flags_field, list_fields, moment_field, name_field, option_fields, user_field};
+ghost use Rattle.verb_bytes.specs.Places.{act_place, deed_place, first_from, given_texts, placed, places_along, replaced_texts, size_of, text_places_of, IsTextAt, LiesThere};
 ghost use Rattle.verb_bytes.specs.Spelling.{act_fields, filter_fields, scope_fields, record_bytes, HasSpelling};
 
 use crate::part::Part;
@@ -225,7 +226,7 @@ fn names_size(names: &[Name]) -> u32
 /// How many bytes lie before the text of a delivery: of the item, who sends, and its recipients.
 #[tactic(auto, using(crate::proofs::Sizes::sizes))]
 fn delivery_text_from(from: &Text, to: &Names) -> u32
-    ensures { result ≡ min (18 + size_of (deed_kind 1 & any_text_field from.now & list_fields MOST_TO name_field to.now)) u32.MAX }
+    ensures { (last : ℕ) → result ≡ min (18 + size_of (deed_kind_to last 1 & any_text_field from.now & list_fields MOST_TO name_field to.now)) u32.MAX }
 {
     added(names_size(to.as_slice()), 27 + from.bytes().len())
 }
@@ -233,7 +234,7 @@ fn delivery_text_from(from: &Text, to: &Names) -> u32
 /// The same of the text of an APPEND.
 #[tactic(auto, using(crate::proofs::Sizes::sizes))]
 fn append_text_from(mailbox: &Name) -> u32
-    ensures { (flags : Flags) (at : ℕ) → result ≡ 18 + size_of (deed_kind 2 & name_field mailbox.now & flags_field flags & moment_field at) }
+    ensures { (last : ℕ) (flags : Flags) (at : ℕ) → result ≡ 18 + size_of (deed_kind_to last 2 & name_field mailbox.now & flags_field flags & moment_field at) }
 {
     29 + mailbox.bytes().len() as u32
 }
@@ -246,15 +247,28 @@ fn give_text_from(mailbox: &Name) -> u32
     20 + mailbox.bytes().len() as u32
 }
 
-#[tactic(auto, using(crate::proofs::Sizes::before_deed_is))]
+/// How many bytes lie before the text of a deed that begins behind so many, the four bytes of the text's length among them: 0
+/// for a deed without one.
+#[tactic(auto, using(crate::proofs::Sizes::kind_sizes))]
+fn deed_text_from(before: u32, deed: &Deed) -> u32
+    requires first { 14 ≤ before }
+    requires last { before ≤ 18 }
+    ensures { (last : ℕ) → result ≡ min (first_from (option_to_list (deed_place last before deed.now))) u32.MAX }
+{
+    let more = (before - 14) as usize;
+    match deed {
+        Deed::Deliver { from, to, .. } => added(delivery_text_from(from, to), more),
+        Deed::Append { mailbox, .. } => added(append_text_from(mailbox), more),
+        Deed::Act(Act::Give { mailbox, .. }) => added(give_text_from(mailbox), more + 2),
+        Deed::Notice { .. } => before + 6,
+        _ => 0,
+    }
+}
+
 fn before_item_text(item: &Item) -> u32
     ensures { result ≡ min (first_from (text_places_of (Verb item.now))) u32.MAX }
 {
-    match &item.deed {
-        Deed::Deliver { from, to, .. } => delivery_text_from(from, to),
-        Deed::Append { mailbox, .. } => append_text_from(mailbox),
-        _ => 0,
-    }
+    deed_text_from(14, &item.deed)
 }
 
 /// How many bytes lie before the text of a user's item in its record, the four bytes of the text's length among them: 0 for
@@ -275,6 +289,29 @@ fn before_act_text(act: &Act) -> u32
         Act::Give { mailbox, .. } => give_text_from(mailbox),
         _ => 0,
     }
+}
+
+fn before_kept_text(item: &Item) -> u32
+    ensures { result ≡ min (first_from (text_places_of (Kept item.now))) u32.MAX }
+{
+    deed_text_from(18, &item.deed)
+}
+
+/// The same of an item that is kept.
+pub fn kept_text_from(item: &Item) -> u32
+    ensures from { result ≡ min (first_from (text_places_of (Kept item.now))) u32.MAX }
+    ensures lies { (text : List ℕ) → length (record_bytes (Kept item.now)) ≤ u32.MAX
+        → text_in item.now.deed ≡ Some text → IsTextAt (record_bytes (Kept item.now)) result text }
+{
+    before_kept_text(item)
+}
+
+/// The same of the text of a body.
+pub fn body_text_from() -> u32
+    ensures from { (body : Body) (text : List ℕ) → result ≡ first_from (text_places_of (TextRecord body text)) }
+    ensures lies { (body : Body) (text : List ℕ) → IsTextAt (record_bytes (TextRecord body text)) result text }
+{
+    13
 }
 
 /// The same of an operator's act.
@@ -335,8 +372,22 @@ fn act_text_places(alloc: Global, act: &Act) -> Result<TextPlaces, NoMemory>
     Ok(places)
 }
 
-/// Where the texts of messages lie in the bytes of a record, in order: those of a delivery, of an APPEND and of a Give, and
-/// a cycle's new texts. Places that four bytes can't say find no memory.
+fn kept_text_places(alloc: Global, item: &Item) -> Result<TextPlaces, NoMemory>
+    ensures { IfOk result (λ places. places ≡ text_places_of (Kept item.now)) }
+{
+    let places = one_place(alloc, kept_text_from(item), item.deed.text())?;
+    Ok(places)
+}
+
+fn body_text_places(alloc: Global, text: &Text) -> Result<TextPlaces, NoMemory>
+    ensures { (body : Body) → IfOk result (λ places. places ≡ text_places_of (TextRecord body text.now)) }
+{
+    let places = one_place(alloc, body_text_from(), Some(text))?;
+    Ok(places)
+}
+
+/// Where the texts of messages lie in the bytes of a record, in order: those of a delivery, of an APPEND and of a Give,
+/// a cycle's new texts, the text of a body, and that of an item that is kept, a notice's too. Places that four bytes can't say find no memory.
 pub fn text_places(alloc: Global, what: &JournalRecord) -> Result<TextPlaces, NoMemory>
     requires { HasSpelling what.now }
     ensures { IfOk result (λ places. places ≡ text_places_of what.now) }
@@ -345,6 +396,8 @@ pub fn text_places(alloc: Global, what: &JournalRecord) -> Result<TextPlaces, No
         JournalRecord::Verb(item) => item_text_places(alloc, item),
         JournalRecord::Operator { act, .. } => act_text_places(alloc, act),
         JournalRecord::Cycle { ask, .. } => ask_text_places(alloc, ask),
+        JournalRecord::Text { text, .. } => body_text_places(alloc, text),
+        JournalRecord::Kept(item) => kept_text_places(alloc, item),
         _ => Ok(Sequence::new(alloc)),
     }
 }

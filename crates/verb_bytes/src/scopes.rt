@@ -148,7 +148,8 @@ fn read_scoped_times(alloc: Global, count: u32, cursor: &mut Cursor<'_>) -> Resu
     }
 }
 
-fn read_scoped_list(alloc: Global, cursor: &mut Cursor<'_>) -> Result<Filters, Stop>
+/// Reads filters with any scopes.
+pub(crate) fn read_scoped_list(alloc: Global, cursor: &mut Cursor<'_>) -> Result<Filters, Stop>
     ensures { Gives (any_list_at (scoped_at scope_at)) cursor.old.rest.now cursor.new.rest.now result }
 {
     let count = cursor.u32(u32::MAX)?;

@@ -25,7 +25,16 @@ returns-in-5 c = this_case 0 record_cases c.args.cursor.now.rest.now c.read_upgr
 pub returns-in-6 : goal.returns-in-6
 returns-in-6 c = this_case 0 record_cases c.args.cursor.now.rest.now c.read_scoped_snapshot.new.cursor.rest.now c.args.kind 6 c.read_scoped_snapshot.result c.in-6.is c.read_scoped_snapshot.ensures
 
+pub returns-in-7 : goal.returns-in-7
+returns-in-7 c = this_case 0 record_cases c.args.cursor.now.rest.now c.read_withdraw.new.cursor.rest.now c.args.kind 7 c.read_withdraw.result c.in-7.is c.read_withdraw.ensures
+
+pub returns-in-8 : goal.returns-in-8
+returns-in-8 c = this_case 0 record_cases c.args.cursor.now.rest.now c.read_base.new.cursor.rest.now c.args.kind 8 c.read_base.result c.in-8.is c.read_base.ensures
+
+pub returns-in-9 : goal.returns-in-9
+returns-in-9 c = this_case 0 record_cases c.args.cursor.now.rest.now c.read_text.new.cursor.rest.now c.args.kind 9 c.read_text.result c.in-9.is c.read_text.ensures
+
 pub returns-in_default : goal.returns-in_default
 returns-in_default c =
     let last : c.args.kind ≡ LAST_RECORD = omega arith in
-    this_case 0 record_cases c.args.cursor.now.rest.now c.read_withdraw.new.cursor.rest.now c.args.kind LAST_RECORD c.read_withdraw.result last c.read_withdraw.ensures
+    this_case 0 record_cases c.args.cursor.now.rest.now c.read_kept_record.new.cursor.rest.now c.args.kind LAST_RECORD c.read_kept_record.result last c.read_kept_record.ensures

@@ -1,5 +1,5 @@
 use Rattle.std.proofs.Common.{◌≡◌, arith}
-use Rattle.verb_bytes.specs.declared.kinds.TheConstants.{LAST_DEED}
+use Rattle.verb_bytes.specs.declared.kinds.TheConstants.{LAST_KEPT_DEED}
 use Rattle.verb_bytes.specs.Reading.{deed_cases}
 use Rattle.verb_bytes.proofs.Cases.{this_case}
 use Rattle.verb_bytes.proofs.deeds.read_case.Goals as goal
@@ -40,7 +40,13 @@ returns-in-11 c = this_case 1 (deed_cases c.args.most) c.args.cursor.now.rest.no
 pub returns-in-12 : goal.returns-in-12
 returns-in-12 c = this_case 1 (deed_cases c.args.most) c.args.cursor.now.rest.now c.read_rename.new.cursor.rest.now c.args.kind 12 c.read_rename.result c.in-12.is c.read_rename.ensures
 
+pub returns-in-13 : goal.returns-in-13
+returns-in-13 c = this_case 1 (deed_cases c.args.most) c.args.cursor.now.rest.now c.read_delete.new.cursor.rest.now c.args.kind 13 c.read_delete.result c.in-13.is c.read_delete.ensures
+
+pub returns-in-14 : goal.returns-in-14
+returns-in-14 c = this_case 1 (deed_cases c.args.most) c.args.cursor.now.rest.now c.read_act_deed.new.cursor.rest.now c.args.kind 14 c.read_act_deed.result c.in-14.is c.read_act_deed.ensures
+
 pub returns-in_default : goal.returns-in_default
 returns-in_default c =
-    let last : c.args.kind ≡ LAST_DEED = omega arith in
-    this_case 1 (deed_cases c.args.most) c.args.cursor.now.rest.now c.read_delete.new.cursor.rest.now c.args.kind LAST_DEED c.read_delete.result last c.read_delete.ensures
+    let last : c.args.kind ≡ LAST_KEPT_DEED = omega arith in
+    this_case 1 (deed_cases c.args.most) c.args.cursor.now.rest.now c.read_notice.new.cursor.rest.now c.args.kind LAST_KEPT_DEED c.read_notice.result last c.read_notice.ensures

@@ -6,4 +6,4 @@ use Rattle.verb_bytes.proofs.Found.{item_place_found}
 use Rattle.verb_bytes.proofs.places.item_text_places.Goals as goal
 
 pub returns : goal.returns
-returns c = item_place_found c.args.item.now c.item_text_from.result c.in_ok-places.places c.item_text_from.ensures.from c.in_ok-places.ensures.small c.requires (c.in_ok-places.ensures.place ∙ ap (λ t. option_to_list (option_map (placed c.item_text_from.result) t)) c.text.ensures)
+returns c = item_place_found c.args.item.now c.item_text_from.result c.in_ok-places.places c.item_text_from.ensures.from c.in_ok-places.ensures.small (c.in_ok-places.ensures.place ∙ ap (λ t. option_to_list (option_map (placed c.item_text_from.result) t)) c.text.ensures)
