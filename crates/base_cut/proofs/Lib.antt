@@ -1,0 +1,6 @@
+pub mod Streams
+pub mod Unfinished
+pub mod Writings
+pub mod Frames
+pub mod Around
+pub mod Told

@@ -1,0 +1,19 @@
+//! Cutting the past off: a store whose past went into a base is written as a new journal.
+//!
+//! `parts` is what a cut is made of, `fault` why it was not written, `writing` writes bytes whole, `framing` a payload behind an
+//! open gate, `cutting` the payloads of a cut, and `laws` says what the definitions imply. In specs/, Writing is what a sink took,
+//! Cutting what a cut is. What carries the crate: `write_cut`, by `exact` (what is written is the cut, byte for byte, or a first
+//! part of it that is no journal) and `reads` (the texts that it lists were read, up to one whose read failed).
+#![tactic(auto)]
+
+mod cutting;
+mod fault;
+mod framing;
+pub mod laws;
+mod parts;
+mod writing;
+
+pub use cutting::write_cut;
+pub use fault::CutFault;
+pub use parts::{BodyList, CutParts};
+pub use writing::write_all;
