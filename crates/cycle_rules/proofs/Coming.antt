@@ -153,7 +153,7 @@ one_of_them (x ∷ xs) a = (
     further (y ∷ ys) a b = (((λ e. absurd (a.0 e)), b.0), further ys a.1 b.1)
 
 -- no item of the first of two lists has a number of the second
-apart_from : (xs ys : List Item) → NumbersApart (xs ++ ys) → AllByRecursion (λ (i : Item). AllByRecursion (λ (j : Item). j.number ≢ i.number) xs) ys
+pub apart_from : (xs ys : List Item) → NumbersApart (xs ++ ys) → AllByRecursion (λ (i : Item). AllByRecursion (λ (j : Item). j.number ≢ i.number) xs) ys
 apart_from [] ys a = each ys
   where
     each : (ys : List Item) → AllByRecursion (λ (i : Item). Unit {0}) ys

@@ -1,2 +1,4 @@
 pub mod Coming
 pub mod Restoring
+pub mod Cutting
+pub mod CutTexts

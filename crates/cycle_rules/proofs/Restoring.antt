@@ -5,6 +5,7 @@ use Rattle.verb_core.specs.declared.item.Item.{Item}
 use Rattle.verb_core.specs.declared.item.Shown.{Shown}
 use Rattle.verb_core.specs.Step.{run, step}
 use Rattle.verb_core.specs.Store.{MailStore}
+use Rattle.verb_core.proofs.Joins.{run_joined}
 use Rattle.verb_bytes.specs.declared.journal.CycleAsk.{CycleAsk}
 use Rattle.paradox.specs.Answers.{broken}
 use Rattle.repair_desk.specs.Repairs.{inserted, kept, repaired}
@@ -19,10 +20,6 @@ use Rattle.cycle_rules.specs.Withdrawals.{restored_items, unedit_of, withdrawn_a
 use Rattle.cycle_rules.proofs.Coming.{length_shown}
 
 -- ---- runs
-
-run_on : (base : MailStore) (xs ys : List Item) → run base (xs ++ ys) ≡ run (run base xs) ys
-run_on base [] ys = refl
-run_on base (x ∷ xs) ys = run_on (step base x).0 xs ys
 
 -- what an item shows does not matter to the store
 by_answer : (s : MailStore) (i : Item) (now : List Shown) → (step s (shown_by i now)).0 ≡ (step s i).0
@@ -46,16 +43,16 @@ run_unedited base present last =
     let front = take last.position present in
     let behind = drop last.position present in
     let rest = drop last.placed present in
-    run_on base (front ++ map (as_shown behind) last.later) rest
-    ∙ ap (λ (s : MailStore). run s rest) (run_on base front (map (as_shown behind) last.later) ∙ run_present (run base front) behind last.later ∙ sym (run_on base front last.later))
-    ∙ sym (run_on base (front ++ last.later) rest)
+    run_joined base (front ++ map (as_shown behind) last.later) rest
+    ∙ ap (λ (s : MailStore). run s rest) (run_joined base front (map (as_shown behind) last.later) ∙ run_present (run base front) behind last.later ∙ sym (run_joined base front last.later))
+    ∙ sym (run_joined base (front ++ last.later) rest)
 
 pub store_restored : (s : Kept) (at : ℕ) (last : UndoneBehind) → run s.base (withdrawn_at s at last).timeline ≡ run s.base (before_of s.timeline last ++ drop last.placed s.timeline ++ told_in s at (unedit_of s last))
 store_restored s at last =
     let told = told_in s at (unedit_of s last) in
-    run_on s.base (kept_in s (unedit_of s last)) told
+    run_joined s.base (kept_in s (unedit_of s last)) told
     ∙ ap (λ (store : MailStore). run store told) (run_shown s.base (last.position + 0) (restored_items s last) (compared_in s (unedit_of s last)) ∙ run_unedited s.base s.timeline last)
-    ∙ sym (run_on s.base (before_of s.timeline last ++ drop last.placed s.timeline) told)
+    ∙ sym (run_joined s.base (before_of s.timeline last ++ drop last.placed s.timeline) told)
 
 -- ---- a cycle after which nothing came
 

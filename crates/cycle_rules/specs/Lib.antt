@@ -3,3 +3,4 @@ pub mod Repairing
 pub mod Cycles
 pub mod Asking
 pub mod Withdrawals
+pub mod Cutting

@@ -16,12 +16,14 @@ use Rattle.verb_core.specs.Store.{IsValid}
 use Rattle.verb_core.proofs.StampLaws.{stamp-each}
 use Rattle.verb_bytes.specs.declared.journal.CycleAsk.{CycleAsk}
 use Rattle.withdraw.specs.declared.undone.UndoneBehind.{UndoneBehind}
-use Rattle.withdraw.specs.Coming.{CanComeBack, TextsComeBack}
+use Rattle.withdraw.specs.Coming.{TextsComeBack}
 use Rattle.withdraw.proofs.Back.{timeline_back}
 use Rattle.withdraw.proofs.Texts.{texts_back}
-use Rattle.store_kept.specs.Kept.{Kept, Marks, mailbox_at, performed, stamp_at, store_of, upgraded}
-use Rattle.store_kept.specs.Texts.{items_behind}
-use Rattle.store_kept.proofs.Coming.{kept_at_hand}
+use Rattle.store_kept.specs.Bases.{HasBase}
+use Rattle.store_kept.specs.Coming.{Comes, ComesIf, HasUndone}
+use Rattle.store_kept.specs.Kept.{Kept, Marks, mailbox_at, origin_of, performed, stamp_at, store_of, upgraded}
+use Rattle.store_kept.specs.Texts.{items_behind, text_at_hand, text_before, text_kept, text_with}
+use Rattle.store_kept.proofs.Coming.{base_at_hand, base_kept, brings, comes_from, items_first, text_found, with_first}
 use Rattle.repair_desk.specs.Renewals.{extends_one, stamp_after}
 use Rattle.repair_desk.specs.Repairs.{position}
 use Rattle.repair_desk.proofs.Extended.{each, itself, transitive}
@@ -86,26 +88,14 @@ lasts_on a b c first second =
 
 -- ---- an item
 
--- whether an item brought the text of a body
-abbrev brings : Body → Item → Bool
-brings body i = (i.number == body.origin) && (i.rev == body.rev) && is_some (text_in i.deed)
-
-abbrev text_found : Option Item → Option (List ℕ)
-text_found o = option_and_then (λ (i : Item). text_in i.deed) o
-
--- the text of a body that another item brought
-text_before : (body : Body) (text : List ℕ) (i : Item) (t more : List Item) → i.number ≢ body.origin → text_of ((t ++ i ∷ []) ++ more) body ≡ Some text → text_of (t ++ more) body ≡ Some text
-text_before body text i [] more apart e = by (brings body i) refl e
-  where
-    by : (b : Bool) → brings body i ≡ b → text_found (cond b (Some i) (find (brings body) more)) ≡ Some text → text_of more body ≡ Some text
-    by true here is = absurd (apart (eqb-true i.number body.origin (first_so (i.number == body.origin) (i.rev == body.rev) (first_so _ (is_some (text_in i.deed)) here))))
-    by false here is = is
-text_before body text i (j ∷ t) more apart e = by (brings body j) e (text_before body text i t more apart)
-  where
-    by : (b : Bool) → text_found (cond b (Some j) (find (brings body) ((t ++ i ∷ []) ++ more))) ≡ Some text → (text_of ((t ++ i ∷ []) ++ more) body ≡ Some text → text_of (t ++ more) body ≡ Some text)
-        → text_found (cond b (Some j) (find (brings body) (t ++ more))) ≡ Some text
-    by true is rest = is
-    by false is rest = rest is
+-- an item of another number brings no text of a body
+skipped : (body : Body) (i : Item) (t more : List Item) → i.number ≢ body.origin → find (brings body) ((t ++ i ∷ []) ++ more) ≡ find (brings body) (t ++ more)
+skipped body i [] more apart =
+    elim (brings body i) as (λ b. brings body i ≡ b → cond b (Some i) (find (brings body) more) ≡ find (brings body) more) [
+      | true ↦ λ here. absurd (apart (eqb-true i.number body.origin (first_so (i.number == body.origin) (i.rev == body.rev) (first_so _ (is_some (text_in i.deed)) here))))
+      | false ↦ λ other. refl
+    ] refl
+skipped body i (j ∷ t) more apart = ap (λ (o : Option Item). cond (brings body j) (Some j) o) (skipped body i t more apart)
 
 module _ (s : Kept) (i : Item) (valid : IsValid (store_of s)) (named : map (λ (r : BoxId × ℕ). r.0) s.stamps ≡ map (λ (r : BoxId × Mailbox). r.0) (store_of s).boxes) (number : i.number ≡ s.next) where
   item_stamps : StampsLast s (performed s i)
@@ -120,7 +110,8 @@ module _ (s : Kept) (i : Item) (valid : IsValid (store_of s)) (named : map (λ (
       by false there after is = let same : i.number ≡ stamp = cc in absurd (omega arith)
 
   item_texts : TextsLast s (performed s i)
-  item_texts body text origin rev is = text_before body text i s.timeline (items_behind s.undone) (λ same. absurd (omega arith)) is
+  item_texts body text origin rev is =
+      sym (ap (λ (o : Option Item). option_or (text_found o) (text_before s.texts body)) (skipped body i s.timeline (items_behind s.undone) (λ same. absurd (omega arith)))) ∙ is
 
   pub lasts_performed : UidsLast s (performed s i)
   lasts_performed = record { next = omega arith; stamps = item_stamps; texts = item_texts }
@@ -158,16 +149,16 @@ rest_text body text place t none e =
     subst (λ (items : List Item). text_of items body ≡ Some text) (take-append-drop place t)
     (ap text_found (find-append (brings body) (take place t) (drop place t)) ∙ ap (λ (o : Option Item). text_found (option_or o (find (brings body) (drop place t)))) none ∙ e)
 
-module _ (s : Kept) (at : ℕ) (ask : CycleAsk) (apart : NumbersApart s.timeline) where
+module _ (s : Kept) (at : ℕ) (ask : CycleAsk) (base : HasBase s) (undone : HasUndone s) (apart : NumbersApart s.timeline) where
   cycle_stamps : (place : ℕ) → StampsLast s (after_cycle s ask (cycled_at s at ask place))
   cycle_stamps place id stamp m below stamped mail =
       let after : Boxes = (run s.base (timeline_at s at ask place)).boxes in
       let one : Some (stamp_after (store_of s).boxes s.stamps s.next (id, m)) ≡ Some stamp = sym (each (store_of s).boxes after s.stamps s.next id m mail) ∙ stamped in
       stamp_kept (store_of s).boxes s.stamps s.next stamp id m below (let same : stamp_after (store_of s).boxes s.stamps s.next (id, m) ≡ stamp = cc in same)
 
-  -- a text that is at hand afterwards is one of the items that are left, or of those that stood behind the point
+  -- a text that is at hand afterwards is one of the items that are left, or of those that stood behind the point, or comes with the base
   cycle_texts : (place : ℕ) → place ≤ length s.timeline → TextsLast s (after_cycle s ask (cycled_at s at ask place))
-  cycle_texts place le body text origin rev is = kept_at_hand s body text (of_parts (in_parts body text (timeline_at s at ask place) (drop place s.timeline) is))
+  cycle_texts place le body text origin rev is = from (comes_from s.texts (timeline_at s at ask place ++ drop place s.timeline) body text is)
     where
       front_none : find (brings body) (timeline_at s at ask place) ≡ None → find (brings body) (take place s.timeline) ≡ None
       front_none none = subst (λ (items : List Item). find (brings body) items ≡ None) (through_stays s at ask place le)
@@ -176,6 +167,11 @@ module _ (s : Kept) (at : ℕ) (ask : CycleAsk) (apart : NumbersApart s.timeline
       of_parts : (text_of (timeline_at s at ask place) body ≡ Some text) ⊎ ((find (brings body) (timeline_at s at ask place) ≡ None) × (text_of (drop place s.timeline) body ≡ Some text)) → text_of s.timeline body ≡ Some text
       of_parts (inl left) = left_texts s at ask place body text apart (omega arith) (λ same. absurd (omega arith)) left
       of_parts (inr later) = rest_text body text place s.timeline (front_none later.0) later.1
+
+      from : (text_of (timeline_at s at ask place ++ drop place s.timeline) body ≡ Some text) ⊎ ((find (brings body) (timeline_at s at ask place ++ drop place s.timeline) ≡ None) × (text_before s.texts body ≡ Some text))
+          → text_at_hand s body ≡ Some text
+      from (inl own) = items_first s.texts s.timeline (items_behind s.undone) body text (of_parts (in_parts body text (timeline_at s at ask place) (drop place s.timeline) own))
+      from (inr before) = base_at_hand s body text base undone before.1
 
   lasts_at : (place : ℕ) → place ≤ length s.timeline → UidsLast s (after_cycle s ask (cycled_at s at ask place))
   lasts_at place le = record { next = omega arith; stamps = cycle_stamps place; texts = cycle_texts place le }
@@ -192,15 +188,15 @@ module _ (s : Kept) (at : ℕ) (ask : CycleAsk) (apart : NumbersApart s.timeline
       elim (leaves_numbers s ask) as (λ b. LastsBy (cond b (Rewinds (cycled_at s at ask place)) NoNumbers)) [ true ↦ lasts_at place (within s.timeline ask.point place there) | false ↦ tt ]
 
 -- what a cycle leaves lasts
-pub lasts_cycled : (s : Kept) (at : ℕ) (ask : CycleAsk) (due : Cycled) → NumbersApart s.timeline → due_anew s at ask ≡ Rewinds due → UidsLast s (after_cycle s ask due)
-lasts_cycled s at ask due apart is = subst (LastsBy s at ask apart) is (by_place s at ask apart (position s.timeline ask.point) refl)
+pub lasts_cycled : (s : Kept) (at : ℕ) (ask : CycleAsk) (due : Cycled) → HasBase s → HasUndone s → NumbersApart s.timeline → due_anew s at ask ≡ Rewinds due → UidsLast s (after_cycle s ask due)
+lasts_cycled s at ask due base undone apart is = subst (LastsBy s at ask base undone apart) is (by_place s at ask base undone apart (position s.timeline ask.point) refl)
 
 -- ---- a withdrawal
 
 -- what comes back was at hand
-pub lasts_withdrawn : (s : Kept) (at : ℕ) (key : List ℕ) (last : UndoneBehind) → IsTimeline s.house s.timeline → s.undone ≡ Some last → CanComeBack s.house s.timeline last → TextsComeBack s.timeline last
-    → UidsLast s (after_withdrawal s key (withdrawn_at s at last))
-lasts_withdrawn s at key last timeline is back texts = record { next = omega arith; stamps = stamps_then; texts = texts_then }
+pub lasts_withdrawn : (s : Kept) (at : ℕ) (key : List ℕ) (last : UndoneBehind) → HasBase s → IsTimeline s.house s.timeline → s.undone ≡ Some last → Comes (origin_of s) s.timeline s.next last
+    → TextsComeBack s.timeline last → UidsLast s (after_withdrawal s key (withdrawn_at s at last))
+lasts_withdrawn s at key last base timeline is comes texts = record { next = omega arith; stamps = stamps_then; texts = texts_then }
   where
     led : Boxes
     led = (run s.base (withdrawn_at s at last).timeline).boxes
@@ -210,12 +206,23 @@ lasts_withdrawn s at key last timeline is back texts = record { next = omega ari
         let one : Some (stamp_after (store_of s).boxes s.stamps s.next (id, m)) ≡ Some stamp = sym (each (store_of s).boxes led s.stamps s.next id m mail) ∙ stamped in
         stamp_kept (store_of s).boxes s.stamps s.next stamp id m below (let same : stamp_after (store_of s).boxes s.stamps s.next (id, m) ≡ stamp = cc in same)
 
+    -- what comes back was at hand, and so was what comes with the base
+    restored : (body : Body) (text : List ℕ) → body.origin < s.next → text_of (withdrawn_at s at last).timeline body ≡ Some text → text_at_hand s body ≡ Some text
+    restored body text origin left =
+        let whole : IsTimeline s.house (restored_items s last) = timeline_back s.house s.timeline last comes.back timeline in
+        with_first s.texts (s.timeline ++ items_behind s.undone) body text
+        (subst (λ (o : Option UndoneBehind). text_of (s.timeline ++ items_behind o) body ≡ Some text) (sym is)
+        (texts_back s.house s.timeline last body text timeline comes.back texts (repaired_texts s at (unedit_of s last) body text whole.apart (omega arith) left)))
+
+    by_source : (body : Body) (text : List ℕ) → body.origin < s.next
+        → (text_of (withdrawn_at s at last).timeline body ≡ Some text) ⊎ ((find (brings body) (withdrawn_at s at last).timeline ≡ None) × (text_before s.texts body ≡ Some text)) → text_at_hand s body ≡ Some text
+    by_source body text origin (inl own) = restored body text origin own
+    by_source body text origin (inr before) = base_at_hand s body text base (subst (ComesIf (origin_of s) s.timeline s.next) (sym is) comes) before.1
+
     texts_then : TextsLast s (after_withdrawal s key (withdrawn_at s at last))
     texts_then body text origin rev at_hand =
-        let left : text_of (withdrawn_at s at last).timeline body ≡ Some text = subst (λ (items : List Item). text_of items body ≡ Some text) (append-nil (withdrawn_at s at last).timeline) at_hand in
-        let whole : IsTimeline s.house (restored_items s last) = timeline_back s.house s.timeline last back timeline in
-        subst (λ (o : Option UndoneBehind). text_of (s.timeline ++ items_behind o) body ≡ Some text) (sym is)
-        (texts_back s.house s.timeline last body text timeline back texts (repaired_texts s at (unedit_of s last) body text whole.apart (omega arith) left))
+        by_source body text origin
+        (comes_from s.texts (withdrawn_at s at last).timeline body text (subst (λ (items : List Item). text_with s.texts items body ≡ Some text) (append-nil (withdrawn_at s at last).timeline) at_hand))
 
 -- ---- no text comes back but by a withdrawal
 
@@ -233,12 +240,17 @@ stay_on a b c rises first second body text origin rev is = first body text origi
 
 pub stay_performed : (s : Kept) (i : Item) → i.number ≡ s.next → TextsStay s (performed s i)
 stay_performed s i number body text origin rev is =
-    subst (λ (items : List Item). text_of items body ≡ Some text) (append-nil s.timeline)
-    (text_before body text i s.timeline [] (λ same. absurd (omega arith)) (subst (λ (items : List Item). text_of items body ≡ Some text) (sym (append-nil (s.timeline ++ i ∷ []))) is))
+    let same : find (brings body) (s.timeline ++ i ∷ []) ≡ find (brings body) s.timeline =
+    ap (find (brings body)) (sym (append-nil (s.timeline ++ i ∷ []))) ∙ skipped body i s.timeline [] (λ same. absurd (omega arith)) ∙ ap (find (brings body)) (append-nil s.timeline) in
+    sym (ap (λ (o : Option Item). option_or (text_found o) (text_before s.texts body)) same) ∙ is
 
-module _ (s : Kept) (at : ℕ) (ask : CycleAsk) (apart : NumbersApart s.timeline) where
+module _ (s : Kept) (at : ℕ) (ask : CycleAsk) (base : HasBase s) (apart : NumbersApart s.timeline) where
   stay_at : (place : ℕ) → TextsStay s (after_cycle s ask (cycled_at s at ask place))
-  stay_at place body text origin rev is = left_texts s at ask place body text apart (omega arith) (λ same. absurd (omega arith)) is
+  stay_at place body text origin rev is = from (comes_from s.texts (timeline_at s at ask place) body text is)
+    where
+      from : (text_of (timeline_at s at ask place) body ≡ Some text) ⊎ ((find (brings body) (timeline_at s at ask place) ≡ None) × (text_before s.texts body ≡ Some text)) → text_kept s body ≡ Some text
+      from (inl own) = with_first s.texts s.timeline body text (left_texts s at ask place body text apart (omega arith) (λ same. absurd (omega arith)) own)
+      from (inr before) = base_kept s body text base before.1
 
   abbrev StayBy : Due → Type 0
   StayBy (Repeats report) = Unit {0}
@@ -250,8 +262,8 @@ module _ (s : Kept) (at : ℕ) (ask : CycleAsk) (apart : NumbersApart s.timeline
   stay_by_place None = tt
   stay_by_place (Some place) = elim (leaves_numbers s ask) as (λ b. StayBy (cond b (Rewinds (cycled_at s at ask place)) NoNumbers)) [ true ↦ stay_at place | false ↦ tt ]
 
-pub stay_cycled : (s : Kept) (at : ℕ) (ask : CycleAsk) (due : Cycled) → NumbersApart s.timeline → due_anew s at ask ≡ Rewinds due → TextsStay s (after_cycle s ask due)
-stay_cycled s at ask due apart is = subst (StayBy s at ask apart) is (stay_by_place s at ask apart (position s.timeline ask.point))
+pub stay_cycled : (s : Kept) (at : ℕ) (ask : CycleAsk) (due : Cycled) → HasBase s → NumbersApart s.timeline → due_anew s at ask ≡ Rewinds due → TextsStay s (after_cycle s ask due)
+stay_cycled s at ask due base apart is = subst (StayBy s at ask base apart) is (stay_by_place s at ask base apart (position s.timeline ask.point))
 
 -- what a client knows lasts with them
 pub uids_stay_on : (a b c : Kept) → UidsStay a b → UidsStay b c → UidsStay a c

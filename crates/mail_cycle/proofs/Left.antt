@@ -14,7 +14,7 @@ use Rattle.verb_core.specs.declared.item.Shown.{Shown}
 use Rattle.verb_core.specs.declared.mailbox.Body.{Body}
 use Rattle.verb_core.specs.declared.mailbox.BoxId.{BoxId}
 use Rattle.verb_core.specs.declared.mailbox.Mailbox.{Mailbox}
-use Rattle.verb_core.specs.Fates.{IsBase, IsFresh}
+use Rattle.verb_core.specs.Fates.{IsFresh}
 use Rattle.verb_core.specs.Items.{IsTimeline, IsWellFormed, NumbersApart, has_form, text_of}
 use Rattle.verb_core.specs.Step.{Boxes, answers, run, shown, step}
 use Rattle.verb_core.specs.Store.{MailStore, users_of}
@@ -36,8 +36,8 @@ use Rattle.mail_cycle.specs.Comparing.{broken_by, compared_from, reached_from, r
 use Rattle.mail_cycle.specs.Leaving.{GoesOn, GoesOnAt}
 use Rattle.mail_cycle.specs.Tasks.{GoesWith}
 use Rattle.cycle_rules.specs.Judging.{judged, shown_after, shown_by, told as tell}
-use Rattle.store_kept.specs.Bases.{HasBase}
-use Rattle.store_kept.specs.Kept.{Kept, store_of}
+use Rattle.store_kept.specs.Bases.{HasBase, IsNew, StandsOn}
+use Rattle.store_kept.specs.Kept.{Kept, origin_of, store_of}
 use Rattle.stored_items.specs.Stored.{AllHeard}
 use Rattle.stored_items.proofs.Heard.{apart_heard}
 use Rattle.replay_crew.proofs.Heard.{formed_heard}
@@ -199,14 +199,19 @@ module _ (s : Kept) (at : ℕ) (repair : Repair) (items : List Item) (now : List
   numbers_by P all higher = joined (λ (i : Item). P i.number) kept told (shown_numbers P (front_in repair) items now all)
       (weaker (λ (j : Item). s.next < j.number) (λ (j : Item). P j.number) (λ j more. higher j.number more) told (above s.next last at _ (omega arith)))
 
-  -- they stand on the base
-  base_by : HasBase s → IsTimeline s.house (timeline_by s at repair items now) → AllByRecursion (λ (i : Item). IsFresh i.number s.base) items → IsBase (timeline_by s at repair items now) s.base
-  base_by base timeline fresh = record {
-    valid = base.stands.valid;
-    timeline = subst (λ (h : House). IsTimeline h (timeline_by s at repair items now)) (sym base.house_is) timeline;
-    once = base.stands.once;
-    fresh = numbers_by (λ (n : ℕ). IsFresh n s.base) fresh (λ n more. base.beyond n (omega (arith, more)));
-  }
+  -- they stand on what the store began with
+  base_by : HasBase s → IsTimeline s.house (timeline_by s at repair items now) → AllByRecursion (λ (i : Item). IsNew (origin_of s) i.number) items → StandsOn (origin_of s) (timeline_by s at repair items now)
+  base_by base timeline new =
+      let all : AllByRecursion (λ (i : Item). IsNew (origin_of s) i.number) (timeline_by s at repair items now) = numbers_by (λ (n : ℕ). IsNew (origin_of s) n) new (λ n more. base.beyond n (omega (arith, more))) in
+      record {
+        base = record {
+          valid = base.stands.valid;
+          timeline = subst (λ (h : House). IsTimeline h (timeline_by s at repair items now)) (sym base.house_is) timeline;
+          once = base.stands.once;
+          fresh = weaker (λ (i : Item). IsNew (origin_of s) i.number) (λ (i : Item). IsFresh i.number s.base) (λ i new. new.fresh) (timeline_by s at repair items now) all;
+        };
+        new = all;
+      }
 
   -- the stamps
   fresh_by : AllByRecursion (λ (r : BoxId × ℕ). r.1 < s.next) s.stamps → AllByRecursion (λ (r : BoxId × ℕ). r.1 < cycled.next) (stamps_by s after)
@@ -223,8 +228,8 @@ repaired_numbers P s at ask place all higher =
     (weaker (λ (j : Item). s.next < j.number) (λ (j : Item). P j.number) (λ j more. higher j.number more) (inserted s.next at ask.inserts) (inserted_above s.next s.next at ask.inserts (omega arith)))
     (of_numbers P ask s.next (drop place s.timeline) (rest_of (λ (i : Item). P i.number) place s.timeline all))
 
-fresh_repaired : (s : Kept) (at : ℕ) (ask : CycleAsk) (place : ℕ) → HasBase s → AllByRecursion (λ (i : Item). IsFresh i.number s.base) (repaired_items s at ask place)
-fresh_repaired s at ask place base = repaired_numbers (λ (n : ℕ). IsFresh n s.base) s at ask place base.stands.fresh (λ n more. base.beyond n (omega (arith, more)))
+new_repaired : (s : Kept) (at : ℕ) (ask : CycleAsk) (place : ℕ) → HasBase s → AllByRecursion (λ (i : Item). IsNew (origin_of s) i.number) (repaired_items s at ask place)
+new_repaired s at ask place base = repaired_numbers (λ (n : ℕ). IsNew (origin_of s) n) s at ask place base.new (λ n more. base.beyond n (omega (arith, more)))
 
 -- a cycle's repair can be gone on with
 pub asked_goes : (s : Kept) (at : ℕ) (ask : CycleAsk) (place : ℕ) → IsTimeline s.house s.timeline → AllByRecursion (λ (i : Item). i.number < s.next) s.timeline → are_known s.house ask.inserts ≡ true
@@ -232,7 +237,7 @@ pub asked_goes : (s : Kept) (at : ℕ) (ask : CycleAsk) (place : ℕ) → IsTime
 asked_goes s at ask place timeline below known = record {
   timeline = record { formed = all_formed s.house s.timeline ask s.next at place timeline.formed known; apart = all_apart s.timeline ask s.next at place timeline.apart below };
   low = all_below s.timeline ask s.next at place below;
-  base = fresh_repaired s at ask place;
+  base = new_repaired s at ask place;
 }
 
 -- what is left from a beginning can be gone on with
@@ -247,7 +252,7 @@ module _ (s : Kept) (at : ℕ) (repair : Repair) (first : MailStore) (count : �
       → GoesOnAt s after_from (reworked_from s at repair first count heard)
   left_from goes fresh few all left = record {
     timeline = timeline_is;
-    base = λ base. base_by s at repair heard now_from after_from base timeline_is (numbers_heard (λ (n : ℕ). IsFresh n s.base) repair.items heard all (goes.base base));
+    base = λ base. base_by s at repair heard now_from after_from base timeline_is (numbers_heard (λ (n : ℕ). IsNew (origin_of s) n) repair.items heard all (goes.base base));
     below = below_by s at repair heard now_from after_from low;
     named = named_by s at repair heard now_from after_from;
     fresh = fresh_by s at repair heard now_from after_from fresh;
@@ -292,8 +297,8 @@ module _ (s : Kept) (at : ℕ) (ask : CycleAsk) (place : ℕ) where
   left_timeline is below known = timeline_left s at (repair_of s at ask place) items shown_then after (at_formed is.formed known) (all_apart s.timeline ask s.next at place is.apart below)
       (all_below s.timeline ask s.next at place below)
 
-  pub left_base : HasBase s → IsTimeline s.house (timeline_at s at ask place) → IsBase (timeline_at s at ask place) s.base
-  left_base base timeline = base_by s at (repair_of s at ask place) items shown_then after base timeline (fresh_repaired s at ask place base)
+  pub left_base : HasBase s → IsTimeline s.house (timeline_at s at ask place) → StandsOn (origin_of s) (timeline_at s at ask place)
+  left_base base timeline = base_by s at (repair_of s at ask place) items shown_then after base timeline (new_repaired s at ask place base)
 
   pub left_revs : AllByRecursion (λ (i : Item). i.rev < s.next) s.timeline → AllByRecursion (λ (i : Item). i.rev < (cycled_at s at ask place).next) (timeline_at s at ask place)
   left_revs below = revs_by s at (repair_of s at ask place) items shown_then after (revs_below s.timeline ask s.next at place below)

@@ -1,9 +1,8 @@
 -- What a withdrawal leaves, and what a cycle leaves to be withdrawn.
-use Rattle.std.proofs.Common.{◌≡◌, ℕ, ◌+◌, ◌<◌, ◌≤◌, true, false, cond, arith, refl, subst, length, Option, Some, None}
+use Rattle.std.proofs.Common.{◌≡◌, ℕ, ◌+◌, ◌<◌, ◌≤◌, true, false, cond, arith, refl, subst, List, ◌++◌, drop, length, map, take, Option, Some, None}
 use Rattle.std.specs.List.{AllByRecursion}
 use Rattle.verb_core.specs.declared.item.Item.{Item}
 use Rattle.verb_core.specs.declared.mailbox.BoxId.{BoxId}
-use Rattle.verb_core.specs.Fates.{IsFresh}
 use Rattle.verb_core.specs.Items.{IsTimeline}
 use Rattle.verb_core.specs.Step.{run}
 use Rattle.verb_core.specs.Store.{MailStore}
@@ -12,12 +11,13 @@ use Rattle.paradox.specs.Letters.{notices}
 use Rattle.stored_items.proofs.Heard.{all_heard_themselves}
 use Rattle.withdraw.specs.declared.undone.UndoneBehind.{UndoneBehind}
 use Rattle.withdraw.specs.Coming.{TextsComeBack}
-use Rattle.withdraw.proofs.Back.{below_back, fresh_back, revs_back, timeline_back}
-use Rattle.store_kept.specs.Bases.{HasBase}
+use Rattle.withdraw.specs.Unediting.{as_shown, unedited_behind}
+use Rattle.withdraw.proofs.Back.{below_back, of_numbers, revs_back, timeline_back}
+use Rattle.store_kept.specs.Bases.{HasBase, IsNew}
 use Rattle.store_kept.specs.Coming.{Comes, HasUndone, HasUndoneTexts}
-use Rattle.store_kept.specs.Kept.{Kept}
+use Rattle.store_kept.specs.Kept.{Kept, Origin, origin_of}
 use Rattle.repair_desk.specs.Repairs.{are_known, position}
-use Rattle.repair_desk.proofs.Everywhere.{rest_of, weaker}
+use Rattle.repair_desk.proofs.Everywhere.{joined, rest_of, taken, weaker}
 use Rattle.repair_desk.proofs.Points.{within}
 use Rattle.cycle_rules.specs.Asking.{Due, NoNumbers, NoPoint, Repeats, Rewinds, after_cycle, due_anew, due_at}
 use Rattle.cycle_rules.specs.Cycles.{broken_at, compared_at, cycled_at, leaves_numbers, repaired_items}
@@ -49,7 +49,16 @@ module _ (s : Kept) (at : ℕ) (repair : Repair) (le : repair.place ≤ length s
 
 -- ---- a withdrawal
 
-module _ (s : Kept) (last : UndoneBehind) (timeline : IsTimeline s.house s.timeline) (comes : Comes s.house s.base s.timeline s.next last) where
+-- the numbers of all items of a timeline without the cycle are new, where those of the items in force are, and of those that come back
+new_back : (origin : Origin) (present : List Item) (last : UndoneBehind) → AllByRecursion (λ (i : Item). IsNew origin i.number) last.later → AllByRecursion (λ (i : Item). IsNew origin i.number) present
+    → AllByRecursion (λ (i : Item). IsNew origin i.number) (unedited_behind present last)
+new_back origin present last later all =
+    let behind = map (as_shown (drop last.position present)) last.later in
+    joined (λ (i : Item). IsNew origin i.number) (take last.position present ++ behind) (drop last.placed present)
+    (joined (λ (i : Item). IsNew origin i.number) (take last.position present) behind (taken (λ (i : Item). IsNew origin i.number) last.position present all) (of_numbers (λ n. IsNew origin n) (drop last.position present) last.later later))
+    (rest_of (λ (i : Item). IsNew origin i.number) last.placed present all)
+
+module _ (s : Kept) (last : UndoneBehind) (timeline : IsTimeline s.house s.timeline) (comes : Comes (origin_of s) s.timeline s.next last) where
   pub withdrawal_place : last.position ≤ length s.timeline
   withdrawal_place = omega (arith, comes.back.position, comes.back.placed)
 
@@ -57,7 +66,7 @@ module _ (s : Kept) (last : UndoneBehind) (timeline : IsTimeline s.house s.timel
   withdrawal_goes below = record {
     timeline = timeline_back s.house s.timeline last comes.back timeline;
     low = weaker (λ (i : Item). i.number < s.next) (λ (i : Item). i.number ≤ s.next + 0) (λ i lt. omega arith) (restored_items s last) (below_back s.house s.timeline last comes.back s.next comes.cycle below);
-    base = λ base. fresh_back s.base s.timeline last comes.fresh base.stands.fresh;
+    base = λ base. new_back (origin_of s) s.timeline last comes.new base.new;
   }
 
   -- what is left can be gone on with
@@ -79,7 +88,7 @@ module _ (s : Kept) (at : ℕ) (ask : CycleAsk) (timeline : IsTimeline s.house s
     cycle = left_rises s at ask place;
     back = can_come_back s at ask place timeline below (repaired_items s at ask place) (compared_at s at ask place) (notices s.house s.next at (broken_at s at ask place)) le
         (all_heard_themselves (repaired_items s at ask place)) (left_timeline s at ask place timeline below known);
-    fresh = rest_of (λ (i : Item). IsFresh i.number s.base) place s.timeline base.stands.fresh;
+    new = rest_of (λ (i : Item). IsNew (origin_of s) i.number) place s.timeline base.new;
   }
 
   cycle_texts_come : (place : ℕ) → AllByRecursion (λ (i : Item). i.rev < s.next) s.timeline → HasUndoneTexts (after_cycle s ask (cycled_at s at ask place))

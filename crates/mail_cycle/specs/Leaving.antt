@@ -5,13 +5,12 @@ use Rattle.undo_base.specs.declared.limits.TheConstants.{LAST_NUMBER}
 use Rattle.verb_core.specs.declared.item.Item.{Item}
 use Rattle.verb_core.specs.declared.mailbox.BoxId.{BoxId}
 use Rattle.verb_core.specs.declared.mailbox.Mailbox.{Mailbox}
-use Rattle.verb_core.specs.Fates.{IsBase}
 use Rattle.verb_core.specs.Items.{IsTimeline}
 use Rattle.verb_core.specs.Step.{run}
 use Rattle.verb_core.specs.Store.{IsValid, MailStore}
 use Rattle.stored_items.specs.Stored.{AllHeard}
-use Rattle.store_kept.specs.Bases.{HasBase}
-use Rattle.store_kept.specs.Kept.{Kept}
+use Rattle.store_kept.specs.Bases.{HasBase, StandsOn}
+use Rattle.store_kept.specs.Kept.{Kept, origin_of}
 use Rattle.mail_cycle.specs.declared.settling.Rewound.{Rewound}
 use Rattle.cycle_rules.specs.Repairing.{Cycled, Repair}
 use Rattle.mail_cycle.specs.Comparing.{reached_from, reworked_from}
@@ -60,7 +59,7 @@ pub record IsMade (s : Kept) (at : ℕ) (repair : Repair) (honest : Type 0) (mad
   pub made_from : IsMadeFrom s at repair first count honest made
 
 -- what is left can be gone on with: the items are a timeline with numbers below the next one, the stamps name the mailboxes and
--- are below it too, it has risen and is one that an item can have, and the items stand on the base, if it carries those before
+-- are below it too, it has risen and is one that an item can have, and the items stand on what the store began with, if that carries those before
 pub record GoesOnAt (s : Kept) (after : MailStore) (due : Cycled) : Type 0 where
   pub timeline : IsTimeline s.house due.timeline
   pub below : AllByRecursion (λ (i : Item). i.number < due.next) due.timeline
@@ -68,7 +67,7 @@ pub record GoesOnAt (s : Kept) (after : MailStore) (due : Cycled) : Type 0 where
   pub fresh : AllByRecursion (λ (r : BoxId × ℕ). r.1 < due.next) due.stamps
   pub rises : s.next < due.next
   pub next : due.next ≤ LAST_NUMBER
-  pub base : HasBase s → IsBase due.timeline s.base
+  pub base : HasBase s → StandsOn (origin_of s) due.timeline
 
 -- the same, where the store is what the whole timeline leads to
 abbrev pub GoesOn : Kept → Cycled → Type 0

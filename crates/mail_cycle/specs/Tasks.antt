@@ -3,13 +3,12 @@ use Rattle.std.specs.Prelude.{◌≡◌, ℕ, ◌+◌, ◌≤◌, List, [], ◌+
 use Rattle.std.specs.List.{AllByRecursion}
 use Rattle.undo_base.specs.declared.limits.TheConstants.{LAST_MOMENT}
 use Rattle.verb_core.specs.declared.item.Item.{Item}
-use Rattle.verb_core.specs.Fates.{IsFresh}
 use Rattle.verb_core.specs.Items.{IsTimeline, IsWellFormed}
 use Rattle.verb_core.specs.Store.{IsValid}
 use Rattle.verb_bytes.specs.declared.journal.CycleAsk.{CycleAsk}
 use Rattle.withdraw.specs.declared.undone.UndoneBehind.{UndoneBehind}
-use Rattle.store_kept.specs.Bases.{HasBase}
-use Rattle.store_kept.specs.Kept.{Kept}
+use Rattle.store_kept.specs.Bases.{HasBase, IsNew}
+use Rattle.store_kept.specs.Kept.{Kept, origin_of}
 use Rattle.repair_desk.specs.declared.editing.EditedBehind.{EditedBehind}
 use Rattle.repair_desk.specs.Repairs.{position}
 use Rattle.cycle_rules.specs.Asking.{Rewinds, due_anew}
@@ -91,8 +90,8 @@ pub record Begins (t : Task) (first : Beginning) : Type 0 where
   pub few : first.count ≤ t.repair.place
 
 -- what it leaves can be gone on with, if what is kept could be: the items are a timeline, with numbers up to those of the acts, which
--- the base has none of
+-- are new to what the store began with
 pub record GoesWith (s : Kept) (repair : Repair) : Type 0 where
   pub timeline : IsTimeline s.house repair.items
   pub low : AllByRecursion (λ (i : Item). i.number ≤ s.next + repair.acts) repair.items
-  pub base : HasBase s → AllByRecursion (λ (i : Item). IsFresh i.number s.base) repair.items
+  pub base : HasBase s → AllByRecursion (λ (i : Item). IsNew (origin_of s) i.number) repair.items

@@ -24,10 +24,10 @@ ghost use Rattle.mail_cycle.specs.Permanence.{TextsStay, UidsLast};
 ghost use Rattle.mail_cycle.specs.Places.{items_before, reason_at, shown_at, tellings};
 ghost use Rattle.cycle_rules.specs.Withdrawals.{after_withdrawal, unedit_of, withdrawn_at};
 ghost use Rattle.withdraw.specs.declared.undone.UndoneBehind.{UndoneBehind};
-ghost use Rattle.withdraw.specs.Coming.{CanComeBack, TextsComeBack};
+ghost use Rattle.withdraw.specs.Coming.{TextsComeBack};
 ghost use Rattle.store_kept.specs.Bases.{HasBase};
 ghost use Rattle.store_kept.specs.Coming.{Comes, HasUndone, HasUndoneTexts};
-ghost use Rattle.store_kept.specs.Kept.{Kept, Marks, performed, store_of, upgraded};
+ghost use Rattle.store_kept.specs.Kept.{Kept, Marks, origin_of, performed, store_of, upgraded};
 
 /// What a cycle leaves can be gone on with: the items are well formed, their numbers distinct and below the next one, the
 /// stamps name the mailboxes and are below the next number, and it has risen and is one that an item can have. So it is with
@@ -66,12 +66,12 @@ pub fn repairs_leave_states()
 
 /// What a withdrawal leaves can be gone on with, where what the last cycle left can come back; and what a cycle leaves can.
 pub fn withdrawals_leave_states()
-    ensures goes { (s : Kept) (last : UndoneBehind) → IsTimeline s.house s.timeline → Comes s.house s.base s.timeline s.next last →
+    ensures goes { (s : Kept) (last : UndoneBehind) → IsTimeline s.house s.timeline → Comes (origin_of s) s.timeline s.next last →
         AllByRecursion (λ (i : Item). i.number < s.next) s.timeline → GoesWith s (unedit_of s last) }
-    ensures due { (s : Kept) (last : UndoneBehind) → IsTimeline s.house s.timeline → Comes s.house s.base s.timeline s.next last → (at : ℕ) →
+    ensures due { (s : Kept) (last : UndoneBehind) → IsTimeline s.house s.timeline → Comes (origin_of s) s.timeline s.next last → (at : ℕ) →
         AllByRecursion (λ (i : Item). i.number < s.next) s.timeline → AllByRecursion (λ (r : BoxId × ℕ). r.1 < s.next) s.stamps →
         leaves_numbers_for s 0 ≡ true → GoesOn s (withdrawn_at s at last) }
-    ensures revs { (s : Kept) (last : UndoneBehind) → IsTimeline s.house s.timeline → Comes s.house s.base s.timeline s.next last → (at : ℕ) →
+    ensures revs { (s : Kept) (last : UndoneBehind) → IsTimeline s.house s.timeline → Comes (origin_of s) s.timeline s.next last → (at : ℕ) →
         TextsComeBack s.timeline last → AllByRecursion (λ (i : Item). i.rev < s.next) s.timeline →
         AllByRecursion (λ (i : Item). i.rev < (withdrawn_at s at last).next) (withdrawn_at s at last).timeline }
     ensures comes { (s : Kept) (at : ℕ) (ask : CycleAsk) → IsTimeline s.house s.timeline → AllByRecursion (λ (i : Item). i.number < s.next) s.timeline →
@@ -149,10 +149,10 @@ pub fn uids_last()
     ensures followed { (a b c : Kept) → UidsLast a b → UidsLast b c → UidsLast a c }
     ensures item { (s : Kept) (i : Item) → IsValid (store_of s) → map (λ (r : BoxId × ℕ). r.0) s.stamps ≡ map (λ (r : BoxId × Mailbox). r.0) (store_of s).boxes → i.number ≡ s.next →
         UidsLast s (performed s i) }
-    ensures cycle { (s : Kept) (at : ℕ) (ask : CycleAsk) (due : Cycled) → NumbersApart s.timeline → due_anew s at ask ≡ Rewinds due →
+    ensures cycle { (s : Kept) (at : ℕ) (ask : CycleAsk) (due : Cycled) → HasBase s → HasUndone s → NumbersApart s.timeline → due_anew s at ask ≡ Rewinds due →
         UidsLast s (after_cycle s ask due) }
-    ensures withdrawal { (s : Kept) (at : ℕ) (key : List ℕ) (last : UndoneBehind) → IsTimeline s.house s.timeline → s.undone ≡ Some last →
-        CanComeBack s.house s.timeline last → TextsComeBack s.timeline last → UidsLast s (after_withdrawal s key (withdrawn_at s at last)) }
+    ensures withdrawal { (s : Kept) (at : ℕ) (key : List ℕ) (last : UndoneBehind) → HasBase s → IsTimeline s.house s.timeline → s.undone ≡ Some last →
+        Comes (origin_of s) s.timeline s.next last → TextsComeBack s.timeline last → UidsLast s (after_withdrawal s key (withdrawn_at s at last)) }
     ensures upgrade { (s : Kept) → UidsLast s (upgraded s) }
     ensures marks { (s : Kept) (marks : Marks) → UidsLast s (record s { marks = marks }) }
 {}
@@ -162,7 +162,7 @@ pub fn texts_stay()
     ensures itself { (s : Kept) → TextsStay s s }
     ensures followed { (a b c : Kept) → a.next ≤ b.next → TextsStay a b → TextsStay b c → TextsStay a c }
     ensures item { (s : Kept) (i : Item) → i.number ≡ s.next → TextsStay s (performed s i) }
-    ensures cycle { (s : Kept) (at : ℕ) (ask : CycleAsk) (due : Cycled) → NumbersApart s.timeline → due_anew s at ask ≡ Rewinds due →
+    ensures cycle { (s : Kept) (at : ℕ) (ask : CycleAsk) (due : Cycled) → HasBase s → NumbersApart s.timeline → due_anew s at ask ≡ Rewinds due →
         TextsStay s (after_cycle s ask due) }
     ensures upgrade { (s : Kept) → TextsStay s (upgraded s) }
     ensures marks { (s : Kept) (marks : Marks) → TextsStay s (record s { marks = marks }) }

@@ -39,5 +39,5 @@ pub use cycling::{rework_by_levels, rework_in_order};
 pub use due::{Due, Work};
 pub use refused::CycleRefused;
 pub use replay_crew::Shows;
-pub use running::Replayed;
+pub use running::{Replayed, replay_in_order};
 pub use settling::Rewound;

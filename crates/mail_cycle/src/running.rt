@@ -130,7 +130,7 @@ fn perform_each<B: Bodies, L: Ledger>(
 
 /// The store that items lead to from the given one, one after the other, and what each of those behind the first so many shows
 /// there. Each of them is performed once, and each delivery's text is read, once. In time that grows as these items and texts.
-pub(crate) fn replay_in_order<B: Bodies, L: Ledger>(
+pub fn replay_in_order<B: Bodies, L: Ledger>(
     alloc: Global,
     store: Store,
     bodies: &mut B,

@@ -1,85 +1,33 @@
 -- Reports by rising keys: what a search by halves finds, and where a report comes in.
-use Rattle.std.proofs.Common.{◌≡◌, ◌≢◌, inl, inr, ℕ, zero, suc, ◌+◌, ◌<◌, ◌≤◌, Bool, true, false, not, cond, T, List, [], ◌∷◌, ◌++◌, Some, None, Result, Err, length, take, drop, filter, take_while, get_or, refl, sym, ap, ◌∙◌, subst, arith, rules, is_eq, is_lt, Ordering, Less, Equal, Greater}
+use Rattle.std.proofs.Common.{◌≡◌, ◌≢◌, ℕ, suc, ◌+◌, ◌<◌, Bool, true, false, not, cond, T, List, [], ◌∷◌, ◌++◌, Some, None, Result, Err, length, take, drop, filter, take_while, get_or, refl, sym, ap, ◌∙◌, subst, is_eq, is_lt, Ordering, Less, Equal, Greater}
 use Rattle.std.specs.Cmp.{first_so, second_so, tied_itself}
 use Rattle.std.specs.Cmp.Lexicographic.{nat_list_cmp_total}
 use Rattle.std.specs.FinMap.Entries as rows
 use Rattle.std.specs.List.{prefix_len}
-use Rattle.std.specs.List.Sorted.{IsBinarySearchResult, IsNonDecreasingBy}
-use Rattle.std.specs.Ordering.{eq_by_cmp, ordering_index, ordering_reverse}
+use Rattle.std.specs.List.Sorted.{IsBinarySearchResult}
+use Rattle.std.specs.Ordering.{eq_by_cmp, ordering_reverse}
 use Rattle.std.proofs.Math.Numerals.{one-add}
-use Rattle.std.proofs.lemmas.Bool.{cases_order}
-use Rattle.std.proofs.lemmas.Cmp.{alike_right}
 use Rattle.std.proofs.lemmas.Map.Lookups.{exact_bytes}
 use Rattle.paradox.specs.declared.reports.Report.{Report}
-use Rattle.verb_core.proofs.Searched.{index_at_most, less_is}
+use Rattle.verb_core.proofs.Searched.{less_is}
 use Rattle.store_kept.specs.Kept.{Reports, is_by_key, key_cmp, report_of, with_report}
 use Rattle.store_kept.specs.Places.{has_other_key, stands_before}
+use Rattle.store_kept.proofs.Halves.{row_found, row_missing, turned}
 
 -- ---- keys in order
 
 turned_over : (a b : List ℕ) (o : Ordering) → key_cmp a b ≡ o → key_cmp b a ≡ ordering_reverse o
-turned_over a b o e = nat_list_cmp_total.antisymm b a ∙ ap ordering_reverse e
-
--- a key before another one compares no higher with a third
-rises : (a b key : List ℕ) → key_cmp a b ≡ Less → ordering_index (key_cmp a key) ≤ ordering_index (key_cmp b key)
-rises a b key less =
-    elim (key_cmp b key) as (λ o. key_cmp b key ≡ o → ordering_index (key_cmp a key) ≤ ordering_index o) [
-      | Less ↦ λ e. let le : key_cmp a key ≡ Less = nat_list_cmp_total.trans a b key less e in subst (λ o. ordering_index o ≤ ordering_index Less) (sym le) (search rules)
-      | Equal ↦ λ e. let le : key_cmp a key ≡ Less = sym (alike_right nat_list_cmp_total b key a e) ∙ less in subst (λ o. ordering_index o ≤ ordering_index Equal) (sym le) (search rules)
-      | Greater ↦ λ e. index_at_most (key_cmp a key)
-    ] refl
-
-below_at : (key : List ℕ) (rs : Reports) → rows.below_all key_cmp key rs ≡ true → (j : ℕ) (d : List ℕ × Report) → j < length rs → key_cmp key (get_or rs j d).0 ≡ Less
-below_at key [] h j d within = absurd (omega arith)
-below_at key (r ∷ rs) h zero d within = less_is (key_cmp key r.0) (first_so _ _ h)
-below_at key (r ∷ rs) h (suc j) d within = below_at key rs (second_so _ _ h) j d (omega arith)
-
-rising_at : (rs : Reports) → is_by_key rs ≡ true → (i j : ℕ) (d : List ℕ × Report) → i < j → j < length rs → key_cmp (get_or rs i d).0 (get_or rs j d).0 ≡ Less
-rising_at [] h i j d lt within = absurd (omega arith)
-rising_at (r ∷ rs) h i zero d lt within = absurd (omega arith)
-rising_at (r ∷ rs) h zero (suc j) d lt within = below_at r.0 rs (first_so _ _ h) j d (omega arith)
-rising_at (r ∷ rs) h (suc i) (suc j) d lt within = rising_at rs (second_so _ _ h) i j d (omega arith) (omega arith)
-
--- the comparisons with a key rise along the reports
-comparisons_rise : (key : List ℕ) (rs : Reports) → is_by_key rs ≡ true → IsNonDecreasingBy (λ (r : List ℕ × Report). ordering_index (key_cmp r.0 key)) rs
-comparisons_rise key rs rising i j d le within =
-    elim (cases_order i j) [
-      | inr (inl lt) ↦ rises (get_or rs i d).0 (get_or rs j d).0 key (rising_at rs rising i j d lt within)
-      | inl same ↦ subst (λ (k : ℕ). ordering_index (key_cmp (get_or rs k d).0 key) ≤ ordering_index (key_cmp (get_or rs j d).0 key)) (sym same) (search rules)
-      | inr (inr gt) ↦ absurd (omega arith)
-    ]
+turned_over = turned key_cmp nat_list_cmp_total
 
 -- ---- what a search by halves finds
 
-not_equal : (o p : Ordering) → p ≢ Equal → o ≡ p → o ≢ Equal
-not_equal o p differs is equal = differs (sym is ∙ equal)
-
 -- the report at its place
 pub report_found : (key : List ℕ) (rs : Reports) → is_by_key rs ≡ true → (i : ℕ) → i < length rs → ((d : List ℕ × Report) → key_cmp (get_or rs i d).0 key ≡ Equal) → (d : List ℕ × Report) → report_of rs key ≡ Some (get_or rs i d).1
-report_found key [] rising i within equal d = absurd (omega arith)
-report_found key (r ∷ rs) rising zero within equal d = ap (λ (o : Ordering). cond (is_eq o) (Some r.1) (report_of rs key)) (turned_over r.0 key Equal (equal r))
-report_found key (r ∷ rs) rising (suc i) within equal d =
-    let is : (get_or rs i r).0 ≡ key = exact_bytes (get_or rs i r).0 key (equal r) in
-    let less : key_cmp r.0 key ≡ Less = subst (λ (q : List ℕ). key_cmp r.0 q ≡ Less) is (below_at r.0 rs (first_so _ _ rising) i r (omega arith)) in
-    ap (λ (o : Ordering). cond (is_eq o) (Some r.1) (report_of rs key)) (turned_over r.0 key Less less) ∙ report_found key rs (second_so _ _ rising) i (omega arith) equal d
-
-none_equal : (key : List ℕ) (rs : Reports) → ((j : ℕ) (d : List ℕ × Report) → j < length rs → key_cmp (get_or rs j d).0 key ≢ Equal) → report_of rs key ≡ None
-none_equal key [] none = refl
-none_equal key (r ∷ rs) none =
-    elim (key_cmp key r.0) as (λ o. key_cmp key r.0 ≡ o → cond (is_eq o) (Some r.1) (report_of rs key) ≡ None) [
-      | Less ↦ λ e. none_equal key rs (λ j d within. none (suc j) d (omega arith))
-      | Equal ↦ λ e. absurd (none 0 r (omega arith) (turned_over key r.0 Equal e))
-      | Greater ↦ λ e. none_equal key rs (λ j d within. none (suc j) d (omega arith))
-    ] refl
+report_found = row_found key_cmp nat_list_cmp_total exact_bytes
 
 -- or there is none
 pub report_missing : (key : List ℕ) (rs : Reports) → is_by_key rs ≡ true → (at : ℕ) → IsBinarySearchResult (λ (row : List ℕ × Report). key_cmp row.0 key) rs (let r : Result ℕ ℕ = Err at in r) → report_of rs key ≡ None
-report_missing key rs rising at parted =
-    none_equal key rs (λ j d inside. elim (cases_order j at) [
-      | inr (inl lt) ↦ not_equal _ Less (λ e. cc) ((parted (comparisons_rise key rs rising)).0 j d (omega arith) lt)
-      | inl same ↦ not_equal _ Greater (λ e. cc) ((parted (comparisons_rise key rs rising)).1 j d (omega arith) inside)
-      | inr (inr gt) ↦ not_equal _ Greater (λ e. cc) ((parted (comparisons_rise key rs rising)).1 j d (omega arith) inside)
-    ])
+report_missing = row_missing key_cmp nat_list_cmp_total
 
 -- ---- a report in its place
 

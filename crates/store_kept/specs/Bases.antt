@@ -1,22 +1,34 @@
--- The base: the store before the first item, on which the items in force stand.
-use Rattle.std.specs.Prelude.{◌≡◌, ℕ, ◌≤◌, List, is_some, IsTrue}
-use Rattle.verb_core.specs.declared.conf.House.{House}
+-- The base: the store before the first item, on which the items in force stand, and the texts that come with it.
+use Rattle.std.specs.Prelude.{◌≡◌, ◌≢◌, ℕ, ◌≤◌, List, is_some, IsTrue}
+use Rattle.std.specs.List.{AllByRecursion}
 use Rattle.verb_core.specs.declared.item.Item.{Item}
 use Rattle.verb_core.specs.declared.mailbox.Body.{Body}
 use Rattle.verb_core.specs.Fates.{IsBase, IsFresh}
-use Rattle.verb_core.specs.Store.{MailStore}
-use Rattle.store_kept.specs.Kept.{Kept}
+use Rattle.store_kept.specs.Kept.{Kept, Origin, origin_of}
 use Rattle.store_kept.specs.Texts.{all_bodies, text_before}
 
--- A store carries items, and those that come with numbers from the next one on: it is of the house; the items can stand on it,
--- that is, it is valid, with the mailboxes that each user has, with each message once and none of an item's number; it has no
--- message of a number to come; and the text of each body in it comes with it.
-pub record Carries (house : House) (base : MailStore) (timeline : List Item) (next : ℕ) : Type 0 where
-  pub house_is : base.house ≡ house
-  pub stands : IsBase timeline base
-  pub beyond : (number : ℕ) → next ≤ number → IsFresh number base
-  pub texts : IsTrue (all_bodies (λ (body : Body). is_some (text_before base body)) base.boxes)
+-- A number is new to what a store in use begins with: no message of the base is of an item of that number, and no text that comes
+-- with the base.
+pub record IsNew (origin : Origin) (number : ℕ) : Type 0 where
+  pub fresh : IsFresh number origin.base
+  pub unnamed : AllByRecursion (λ (r : Body × List ℕ). r.0.origin ≢ number) origin.texts
 
--- the base carries what is kept
+-- items stand on it: they can stand on the base, and the number of each is new
+pub record StandsOn (origin : Origin) (timeline : List Item) : Type 0 where
+  pub base : IsBase timeline origin.base
+  pub new : AllByRecursion (λ (i : Item). IsNew origin i.number) timeline
+
+-- What a store in use begins with carries items, and those that come with numbers from the next one on: the base is of the house; the
+-- items can stand on it, that is, it is valid, with the mailboxes that each user has, with each message once; their numbers are new,
+-- and so is each to come; numbers are drawn from no higher one than the next; and the text of each body in the base comes with it.
+pub record Carries (origin : Origin) (timeline : List Item) (next : ℕ) : Type 0 where
+  pub house_is : origin.base.house ≡ origin.house
+  pub stands : IsBase timeline origin.base
+  pub new : AllByRecursion (λ (i : Item). IsNew origin i.number) timeline
+  pub beyond : (number : ℕ) → next ≤ number → IsNew origin number
+  pub drawn : origin.first ≤ next
+  pub texts : IsTrue (all_bodies (λ (body : Body). is_some (text_before origin.texts body)) origin.base.boxes)
+
+-- it carries what is kept
 abbrev pub HasBase : Kept → Type 0
-HasBase kept = Carries kept.house kept.base kept.timeline kept.next
+HasBase kept = Carries (origin_of kept) kept.timeline kept.next

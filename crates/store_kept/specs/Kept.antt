@@ -1,12 +1,13 @@
 -- What is kept of a store in use: all that is needed to have it again, and to go on.
 use Rattle.std.specs.Prelude.{◌≡◌, ℕ, ◌+◌, ◌-◌, ◌==◌, nat_le, nat_lt, if◌then◌else◌, Bool, true, false, List, [], ◌∷◌, ◌++◌, length, get_or, filter, Option, Some, None, option_and_then}
 use Rattle.std.specs.declared.cmp.Ordering.{Ordering}
-use Rattle.std.specs.Ordering.{nat_cmp}
+use Rattle.std.specs.Ordering.{nat_cmp, ordering_then}
 use Rattle.std.specs.Cmp.Lexicographic.{slice_cmp}
 use Rattle.std.specs.FinMap.Entries as rows
 use Rattle.verb_core.specs.declared.conf.Conf.{Conf}
 use Rattle.verb_core.specs.declared.conf.House.{House}
 use Rattle.verb_core.specs.declared.item.Item.{Item}
+use Rattle.verb_core.specs.declared.mailbox.Body.{Body}
 use Rattle.verb_core.specs.declared.mailbox.BoxId.{BoxId}
 use Rattle.verb_core.specs.declared.mailbox.Mailbox.{Mailbox}
 use Rattle.verb_core.specs.Boxes.{row_at}
@@ -78,15 +79,32 @@ rewound place n m = record m { since = m.since + n; places = not_behind place m.
 abbrev pub newest_at : ℕ → List ℕ → ℕ
 newest_at place places = get_or (not_behind place places) (length (not_behind place places) - 1) 0
 
+-- ---- the texts that come with a base
+
+-- bodies by origin, and then by rev
+abbrev pub body_cmp : Body → Body → Ordering
+body_cmp a b = ordering_then (nat_cmp a.origin b.origin) (nat_cmp a.rev b.rev)
+
+-- each text by its body
+abbrev pub BaseTexts : Type 0
+BaseTexts = List (Body × List ℕ)
+
+-- with the text of a body in its place, by rising body
+abbrev pub with_base_text : Body → List ℕ → BaseTexts → BaseTexts
+with_base_text body text texts = rows.put body_cmp body text texts
+
 -- ---- what is kept
 
--- the house, the configuration at first, the store before the first item, the store that is there, the items in force in order,
--- the stamp of each mailbox, the next number, the reports of cycles, the snapshots, whether names may have superiors, and what the
--- last of all cycles and withdrawals left to be withdrawn, where it is a cycle
+-- the house, the configuration at first, the base, the store before the first item, the texts that come with it, the number from
+-- which this journal draws, the store that is there, the items in force in order, the stamp of each mailbox, the next number, the
+-- reports of cycles, the snapshots, whether names may have superiors, and what the last of all cycles and withdrawals left to be
+-- withdrawn, where it is a cycle
 pub record Kept : Type 0 where
   pub house : House
   pub opening : Conf
   pub base : MailStore
+  pub texts : BaseTexts
+  pub first : ℕ
   pub store : MailStore
   pub timeline : List Item
   pub stamps : List (BoxId × ℕ)
@@ -96,15 +114,18 @@ pub record Kept : Type 0 where
   pub deep : Bool
   pub undone : Option UndoneBehind
 
--- what a store in use begins with: its house, the configuration at first, and the base, the store before the first item
+-- what a store in use begins with: its house, the configuration at first, the base, the store before the first item, the texts that
+-- come with it, and the number from which this journal draws
 pub record Origin : Type 0 where
   pub house : House
   pub opening : Conf
   pub base : MailStore
+  pub texts : BaseTexts
+  pub first : ℕ
 
--- where the base is the opening store of the house and the configuration
+-- where the base is the opening store of the house and the configuration, which has no mail
 abbrev pub opening_origin : House → Conf → Origin
-opening_origin house conf = record { house = house; opening = conf; base = opening house conf }
+opening_origin house conf = record { house = house; opening = conf; base = opening house conf; texts = []; first = house.first }
 
 -- what is kept, by where it began
 abbrev pub kept_from : Origin → MailStore → List Item → List (BoxId × ℕ) → ℕ → Reports → Marks → Bool → Option UndoneBehind → Kept
@@ -112,6 +133,8 @@ kept_from origin store timeline stamps next reports marks deep undone = record {
   house = origin.house;
   opening = origin.opening;
   base = origin.base;
+  texts = origin.texts;
+  first = origin.first;
   store = store;
   timeline = timeline;
   stamps = stamps;
@@ -124,7 +147,7 @@ kept_from origin store timeline stamps next reports marks deep undone = record {
 
 -- what it began with
 abbrev pub origin_of : Kept → Origin
-origin_of kept = record { house = kept.house; opening = kept.opening; base = kept.base }
+origin_of kept = record { house = kept.house; opening = kept.opening; base = kept.base; texts = kept.texts; first = kept.first }
 
 -- the store
 abbrev pub store_of : Kept → MailStore
@@ -148,6 +171,8 @@ new_desk house conf = record {
   house = house;
   opening = conf;
   base = opening house conf;
+  texts = [];
+  first = house.first;
   store = opening house conf;
   timeline = [];
   stamps = opening_stamps (opening house conf);

@@ -1,6 +1,8 @@
 -- Where the texts of what is kept come from.
-use Rattle.std.specs.Prelude.{ℕ, Bool, List, [], ◌++◌, map, is_some, Option, Some, None, unwrap_or}
+use Rattle.std.specs.Prelude.{ℕ, Bool, nat_le, ◌&&◌, List, [], ◌++◌, map, is_some, Option, Some, None, unwrap_or}
+use Rattle.std.specs.FinMap.Entries as rows
 use Rattle.std.specs.List.{list_all}
+use Rattle.std.specs.Option.{option_or}
 use Rattle.verb_core.specs.declared.item.Item.{Item}
 use Rattle.verb_core.specs.declared.mailbox.Body.{Body}
 use Rattle.verb_core.specs.declared.mailbox.BoxId.{BoxId}
@@ -8,24 +10,32 @@ use Rattle.verb_core.specs.declared.mailbox.Entry.{Entry}
 use Rattle.verb_core.specs.declared.mailbox.Mailbox.{Mailbox}
 use Rattle.verb_core.specs.Deeds.{is_notice}
 use Rattle.verb_core.specs.Items.{text_of}
-use Rattle.verb_core.specs.Store.{MailStore}
 use Rattle.withdraw.specs.declared.undone.UndoneBehind.{UndoneBehind}
-use Rattle.store_kept.specs.Kept.{Kept}
+use Rattle.store_kept.specs.Kept.{BaseTexts, Kept, body_cmp}
 
 -- whether a test passes at the body of each entry
 abbrev pub all_bodies : (Body → Bool) → List (BoxId × Mailbox) → Bool
 all_bodies test boxes = list_all (λ (r : BoxId × Mailbox). list_all (λ (e : Entry). test e.body) r.1.entries) boxes
 
--- the text of a body that comes with a base: none does, each text comes with an item
-abbrev pub text_before : MailStore → Body → Option (List ℕ)
-text_before base body = None
+-- ---- the text of a body
 
--- the text of a body, where these are the items in force: one of them brings it
+-- the text of a body that comes with a base
+abbrev pub text_before : BaseTexts → Body → Option (List ℕ)
+text_before texts body = rows.find body_cmp body texts
+
+-- the text of a body that one of these items brings, or else comes with a base
+abbrev pub text_with : BaseTexts → List Item → Body → Option (List ℕ)
+text_with texts items body = option_or (text_of items body) (text_before texts body)
+
+abbrev pub has_text_with : BaseTexts → List Item → Body → Bool
+has_text_with texts items body = is_some (text_with texts items body)
+
+-- the text of a body, where these are the items in force
 abbrev pub text_among : Kept → List Item → Body → Option (List ℕ)
-text_among kept items body = text_of items body
+text_among kept items body = text_with kept.texts items body
 
 abbrev pub has_text_among : Kept → List Item → Body → Bool
-has_text_among kept items body = is_some (text_among kept items body)
+has_text_among kept items body = has_text_with kept.texts items body
 
 -- the text of a body that is kept
 abbrev pub text_kept : Kept → Body → Option (List ℕ)
@@ -52,6 +62,7 @@ items_asked kept = kept.timeline ++ items_behind kept.undone
 abbrev pub text_at_hand : Kept → Body → Option (List ℕ)
 text_at_hand kept body = text_among kept (items_asked kept) body
 
--- whether an item's text is in memory: a cycle makes a notice's, and no record has it
-abbrev pub is_in_memory : Item → Bool
-is_in_memory i = is_notice i.deed
+-- whether an item's text is in memory, where numbers are drawn from the first one on: a cycle or a withdrawal of this journal makes a
+-- notice's, and no record has it. A notice of before has a lower number, and a record of its own
+abbrev pub is_in_memory : ℕ → Item → Bool
+is_in_memory first i = is_notice i.deed && nat_le first i.number

@@ -12,6 +12,9 @@
 mod base;
 pub mod laws;
 mod reports;
+mod texts;
 
-pub use base::Base;
-pub use reports::{Reports, put_report, report_of};
+pub use base::{Base, Past};
+pub use paradox::Reports;
+pub use reports::{put_report, report_of};
+pub use texts::{BaseTexts, PastText};

@@ -5,10 +5,7 @@ ghost use Rattle.store_kept.specs.Places.{has_other_key, stands_before};
 
 use paradox::Report;
 use std::cmp::Ordering;
-use undo_base::{Name, Sequence};
-
-/// Each cycle's report by the key of its request, by rising key.
-pub type Reports = Sequence<(Name, Report)>;
+use undo_base::Name;
 
 type Row = (Name, Report);
 

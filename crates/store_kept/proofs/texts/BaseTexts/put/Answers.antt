@@ -1,0 +1,28 @@
+use Rattle.std.proofs.Common.{◌≡◌, ◌∙◌, ℕ, List, Some, true, ap, get_or, is_some, None, set, subst, sym, true≢false}
+use Rattle.verb_core.specs.declared.mailbox.Body.{Body}
+use Rattle.store_kept.specs.Kept.{with_base_text}
+use Rattle.store_kept.specs.Naming.{NamedTexts, are_rising, is_named, texts_come, with_row}
+use Rattle.store_kept.proofs.Named.{come_text, rising_put, still_named}
+use Rattle.store_kept.proofs.texts.BaseTexts.put.Goals as goal
+use Rattle.store_kept.proofs.texts.BaseTexts.put.Goals.{After-put_row}
+
+rising : (c : After-put_row) → are_rising c.args.self.now ≡ true
+rising c = subst (λ (named : NamedTexts). are_rising named ≡ true) c.self.view_is c.self.invariant
+
+-- the row of the body has its text
+put_is : (c : After-put_row) → c.put_row.new.rows.items ≡ with_row c.args.body (Some c.of.result) c.args.self.now
+put_is c =
+    c.put_row.ensures ∙ ap (λ (named : NamedTexts). set named c.in-Ok.place (c.args.body, Some c.of.result)) c.self.view_is ∙ c.in-Ok.ensures.there.put (Some c.of.result)
+
+pub invariant_of-self : goal.invariant_of-self
+invariant_of-self c = ap are_rising (put_is c) ∙ rising_put c.args.body (Some c.of.result) c.args.self.now (rising c)
+
+pub returns-clause-texts : goal.returns-clause-texts
+returns-clause-texts c =
+    ap texts_come (put_is c) ∙ come_text c.args.body c.of.result c.args.self.now (rising c) ∙ ap (λ (text : List ℕ). with_base_text c.args.body text (texts_come c.args.self.now)) c.of.ensures
+
+pub returns-clause-names : goal.returns-clause-names
+returns-clause-names c = λ other. ap (λ (named : NamedTexts). is_named named other) (put_is c) ∙ still_named c.args.body (Some c.of.result) c.args.self.now c.requires other
+
+pub unreachable-requires : goal.unreachable-requires
+unreachable-requires c = absurd (true≢false (sym c.requires ∙ ap is_some c.in-Err.ensures.none.none))
