@@ -1,11 +1,12 @@
 -- The texts of bodies, one after the other.
-use Rattle.std.proofs.Common.{◌≡◌, ◌+◌, ◌<◌, ◌∙◌, ◌||◌, ℕ, Bool, true, false, zero, suc, List, ◌∷◌, ◌++◌, length, take, get_or, unwrap_or, refl, ap, sym, arith, []}
+use Rattle.std.proofs.Common.{◌≡◌, ◌+◌, ◌<◌, ◌∙◌, ◌||◌, ℕ, Bool, true, false, zero, suc, List, ◌∷◌, ◌++◌, length, take, get_or, unwrap_or, Option, Some, cond, refl, ap, sym, arith, []}
 use Rattle.std.specs.List.{list_any}
 use Rattle.std.proofs.lemmas.List.{map-append}
 use Rattle.verb_core.specs.declared.mailbox.Body.{Body}
-use Rattle.verb_core.specs.Items.{text_of}
-use Rattle.mail_desk.specs.Timeline.{texts_of}
-use Rattle.verb_core.specs.declared.item.Item.{Item}
+use Rattle.store_kept.specs.Kept.{Kept}
+use Rattle.store_kept.specs.Texts.{text_kept, texts_kept}
+use Rattle.desk_journal.specs.Stored.{is_recorded}
+use Rattle.desk_journal.specs.Telling.{with_memory}
 
 -- ---- one item after the other
 
@@ -18,11 +19,30 @@ pub one_more : (k : ℕ) → suc k ≡ k + 1
 one_more k = omega arith
 
 -- the texts of the bodies so far, and of the next
-pub texts_next : (t : List Item) (bodies : List Body) (k : ℕ) (d : Body) (old new : List (List ℕ)) → k < length bodies → old ≡ texts_of t (take k bodies) → new ≡ old ++ texts_of t (get_or bodies k d ∷ []) → new ≡ texts_of t (take (k + 1) bodies)
-texts_next t bodies k d old new less so_far more =
-    more ∙ ap (λ (l : List (List ℕ)). l ++ texts_of t (get_or bodies k d ∷ [])) so_far
-    ∙ sym (map-append (λ (body : Body). unwrap_or (text_of t body) []) (take k bodies) (get_or bodies k d ∷ []))
-    ∙ ap (texts_of t) (sym (take_next k bodies d less) ∙ ap (λ (n : ℕ). take n bodies) (one_more k))
+pub texts_next : (kept : Kept) (bodies : List Body) (k : ℕ) (d : Body) (old new : List (List ℕ)) → k < length bodies → old ≡ texts_kept kept (take k bodies) → new ≡ old ++ texts_kept kept (get_or bodies k d ∷ []) → new ≡ texts_kept kept (take (k + 1) bodies)
+texts_next kept bodies k d old new less so_far more =
+    more ∙ ap (λ (l : List (List ℕ)). l ++ texts_kept kept (get_or bodies k d ∷ [])) so_far
+    ∙ sym (map-append (λ (body : Body). unwrap_or (text_kept kept body) []) (take k bodies) (get_or bodies k d ∷ []))
+    ∙ ap (texts_kept kept) (sym (take_next k bodies d less) ∙ ap (λ (n : ℕ). take n bodies) (one_more k))
+
+-- ---- texts in memory
+
+as_kept : (b : Bool) (text : List ℕ) (o : Option (List ℕ)) → (b ≡ false → o ≡ Some text) → cond b text (unwrap_or o []) ≡ text
+as_kept true text o is = refl
+as_kept false text o is = ap (λ (o : Option (List ℕ)). unwrap_or o []) (is refl)
+
+-- where those so far are as they are kept, and the next one, all are
+pub memory_next : (kept : Kept) (bodies : List Body) (k : ℕ) (d : Body) (old : List (List ℕ)) (text : List ℕ) → k < length bodies → length old ≡ k → with_memory kept (take k bodies) old ≡ old
+    → (is_recorded kept kept.timeline (get_or bodies k d) ≡ false → text_kept kept (get_or bodies k d) ≡ Some text) → with_memory kept (take (suc k) bodies) (old ++ text ∷ []) ≡ old ++ text ∷ []
+memory_next kept [] k d old text less count same is = absurd (omega arith)
+memory_next kept (body ∷ bodies) zero d [] text less count same is = ap (λ (t : List ℕ). t ∷ []) (as_kept (is_recorded kept kept.timeline body) text (text_kept kept body) is)
+memory_next kept (body ∷ bodies) zero d (first ∷ old) text less count same is = absurd (let wrong : suc (length old) ≡ zero = count in omega (arith, wrong))
+memory_next kept (body ∷ bodies) (suc k) d [] text less count same is = absurd (let wrong : ◌≡◌ {A = ℕ} zero (suc k) = count in omega (arith, wrong))
+memory_next kept (body ∷ bodies) (suc k) d (first ∷ old) text less count same is =
+    let head : cond (is_recorded kept kept.timeline body) first (unwrap_or (text_kept kept body) []) ≡ first = cc same in
+    let rest : with_memory kept (take k bodies) old ≡ old = cc same in
+    let more = memory_next kept bodies k d old text (omega arith) (let size : suc (length old) ≡ suc k = count in omega (arith, size)) rest is in
+    λ j. head j ∷ more j
 
 -- ---- where no element passes
 

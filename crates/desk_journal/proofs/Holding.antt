@@ -1,12 +1,12 @@
 -- What a disk holds of the texts of a desk after a call.
-use Rattle.std.proofs.Common.{◌≡◌, ℕ, ◌+◌, ◌<◌, ◌≤◌, Bool, true, false, cond, List, ◌∷◌, ◌++◌, length, map, Option, None, Some, ◌&&◌, refl, ap, ap₂, sym, subst, ◌∙◌, arith, []}
+use Rattle.std.proofs.Common.{◌≡◌, ◌≢◌, ℕ, ◌+◌, ◌<◌, ◌≤◌, Bool, true, false, List, ◌∷◌, ◌++◌, length, map, Option, None, Some, refl, ap₂, sym, subst, ◌∙◌, arith, []}
 use Rattle.std.specs.List.{AllByRecursion, slice_range}
 use Rattle.undo_outside.specs.Disk.{DiskTold}
+use Rattle.verb_core.specs.declared.conf.Conf.{Conf}
 use Rattle.verb_core.specs.declared.conf.House.{House}
 use Rattle.verb_core.specs.declared.item.Item.{Item}
 use Rattle.verb_core.specs.declared.mailbox.Body.{Body}
 use Rattle.verb_core.specs.Items.{text_in}
-use Rattle.verb_core.specs.Store.{MailStore}
 use Rattle.seal_log.specs.declared.place.Place.{Place}
 use Rattle.seal_log.specs.Journal.{LiesAt}
 use Rattle.seal_log.specs.Settled.{Holds, IsSettled, ReadsAlone}
@@ -16,17 +16,13 @@ use Rattle.mail_desk.specs.Timeline.{NotesText, body_of}
 use Rattle.mail_desk.proofs.Timelines.{all_joined, all_weaker}
 use Rattle.withdraw.specs.declared.undone.UndoneBehind.{UndoneBehind}
 use Rattle.store_kept.specs.Coming.{ComesIf, HasUndone, HasUndoneTexts, TextsComeIf}
-use Rattle.store_kept.specs.Kept.{IsRun, Kept, new_desk, performed}
+use Rattle.store_kept.specs.Kept.{IsRun, Kept, Origin, new_desk, origin_of, performed}
 use Rattle.store_kept.specs.Texts.{items_asked, items_behind}
-use Rattle.house_text.specs.Beginning.{can_begin}
-use Rattle.verb_bytes.specs.declared.journal.JournalRecord.{JournalRecord}
-use Rattle.verb_bytes.specs.declared.journal.JournalRecord.TheVariants.{Format}
 use Rattle.desk_journal.specs.Lasting.{Lasting}
-use Rattle.desk_journal.specs.Records.{first_state, is_spelled}
 use Rattle.desk_journal.specs.Permanence.{RevsBelow}
-use Rattle.desk_journal.specs.Stored.{HoldsTexts, IsBefore, IsStored, MarksLie, NotedBefore, NotesTexts, TextsHeld, TextsLie, TextsNoted, TextsStored, recorded_in}
+use Rattle.desk_journal.specs.Stored.{AllNoted, BaseHasNote, HasNote, HoldsTexts, IsBefore, IsStored, MarksLie, NotesTexts, TextsHeld, TextsNoted, TextsStored, recorded_in}
 use Rattle.desk_journal.proofs.Marking.{marks_stay}
-use Rattle.desk_journal.proofs.Noting.{Moves, entered, has_note_moves}
+use Rattle.desk_journal.proofs.Noting.{Moves, all_noted_moves, base_entered, entered}
 
 -- ---- more payloads, and a later gate
 
@@ -39,8 +35,8 @@ stored_stays stays payloads more note text is = record {
 }
 
 pub texts_stay : ((payloads more : List (List ℕ)) (gate count : ℕ) (payload : List ℕ) → LiesAt payloads gate count payload → LiesAt (payloads ++ more) gate count payload)
-    → (payloads more : List (List ℕ)) (notes : List (Body × Note)) (t : List Item) → TextsLie payloads notes t → TextsLie (payloads ++ more) notes t
-texts_stay stays payloads more notes t = has_note_moves (IsStored payloads) (IsStored (payloads ++ more)) notes t (stored_stays stays payloads more)
+    → (payloads more : List (List ℕ)) (notes : List (Body × Note)) (kept : Kept) → TextsStored payloads notes kept → TextsStored (payloads ++ more) notes kept
+texts_stay stays payloads more notes kept = all_noted_moves kept.first (IsStored payloads) (IsStored (payloads ++ more)) notes kept.texts (items_asked kept) (stored_stays stays payloads more)
 
 before_later : (gate later : ℕ) → gate ≤ later → Moves (IsBefore gate) (IsBefore later)
 before_later gate later less note text is = record {
@@ -49,15 +45,15 @@ before_later gate later less note text is = record {
 }
 
 -- what is noted before a gate is noted before a later one
-pub noted_later : (gate later : ℕ) (notes : List (Body × Note)) (t : List Item) → gate ≤ later → NotedBefore gate notes t → NotedBefore later notes t
-noted_later gate later notes t less = has_note_moves (IsBefore gate) (IsBefore later) notes t (before_later gate later less)
+pub noted_later : (gate later : ℕ) (notes : List (Body × Note)) (kept : Kept) → gate ≤ later → TextsNoted gate notes kept → TextsNoted later notes kept
+noted_later gate later notes kept less = all_noted_moves kept.first (IsBefore gate) (IsBefore later) notes kept.texts (items_asked kept) (before_later gate later less)
 
 -- ---- an item more
 
 -- what can come back has numbers below the next one
-behind_below : (house : House) (base : MailStore) (timeline : List Item) (next : ℕ) (o : Option UndoneBehind) → ComesIf house base timeline next o → AllByRecursion (λ (j : Item). j.number < next) (items_behind o)
-behind_below house base timeline next None comes = tt
-behind_below house base timeline next (Some last) comes =
+behind_below : (origin : Origin) (timeline : List Item) (next : ℕ) (o : Option UndoneBehind) → ComesIf origin timeline next o → AllByRecursion (λ (j : Item). j.number < next) (items_behind o)
+behind_below origin timeline next None comes = tt
+behind_below origin timeline next (Some last) comes =
     all_weaker (λ (j : Item). j.number < last.cycle) (λ (j : Item). j.number < next) (λ j less. omega (arith, less, comes.cycle)) last.later comes.back.older
 
 -- the item of the next number comes behind all whose texts may be asked for
@@ -65,26 +61,31 @@ pub asked_below : (kept : Kept) (i : Item) → i.number ≡ kept.next → AllByR
     → AllByRecursion (λ (j : Item). j.number < i.number) (items_asked kept)
 asked_below kept i number below undone =
     subst (λ (n : ℕ). AllByRecursion (λ (j : Item). j.number < n) (items_asked kept)) (sym number)
-    (all_joined (λ (j : Item). j.number < kept.next) kept.timeline (items_behind kept.undone) below (behind_below kept.house kept.base kept.timeline kept.next kept.undone undone))
+    (all_joined (λ (j : Item). j.number < kept.next) kept.timeline (items_behind kept.undone) below (behind_below (origin_of kept) kept.timeline kept.next kept.undone undone))
 
--- the item of a record that lies at a place before a gate is entered, and its text is noted where it stands in the record
+-- the item of a record that lies at a place before a gate is entered, and its text is noted where it stands in the record; no text that
+-- comes with the base is of its number
 pub entered_notes : (gate : ℕ) (place : Place) (bytes : List ℕ) (from : ℕ) (old new : Held) (i : Item)
     → place.gate + 5 + place.length ≤ gate → place.length ≡ length bytes
-    → ((text : List ℕ) → recorded_in i ≡ Some text → (from + length text ≤ length bytes) × (slice_range bytes from (from + length text) ≡ text))
-    → AllByRecursion (λ (j : Item). j.number < i.number) (items_asked old.kept) → new.kept ≡ performed old.kept i
+    → ((text : List ℕ) → recorded_in old.kept.first i ≡ Some text → (from + length text ≤ length bytes) × (slice_range bytes from (from + length text) ≡ text))
+    → AllByRecursion (λ (j : Item). j.number < i.number) (items_asked old.kept) → AllByRecursion (λ (r : Body × List ℕ). r.0.origin ≢ i.number) old.kept.texts → new.kept ≡ performed old.kept i
     → NotesText (text_in i.deed) (body_of i) place from old.notes new.notes → NotesTexts gate place bytes old new
-entered_notes gate place bytes from old new i within long stands below is noted = record {
-  before = λ all. subst (TextsNoted gate new.notes) (sym is)
-      (entered (IsBefore gate) old.kept.timeline (items_behind old.kept.undone) i place from old.notes new.notes below noted all (λ text own. record {
-        lies = record { place = within; range = let at : from + length text ≤ length bytes = (stands text own).0 in let long' : place.length ≡ length bytes = long in omega arith };
-        size = refl;
-      }));
-  lie = λ payloads lies all. subst (TextsStored payloads new.notes) (sym is)
-      (entered (IsStored payloads) old.kept.timeline (items_behind old.kept.undone) i place from old.notes new.notes below noted all (λ text own. record {
-        payload = bytes;
-        lies = lies;
-        bytes = (stands text own).1;
-      }));
+entered_notes gate place bytes from old new i within long stands below unnamed is noted = record {
+  before = λ all. subst (TextsNoted gate new.notes) (sym is) (record {
+    items = entered old.kept.first (IsBefore gate) old.kept.timeline (items_behind old.kept.undone) i place from old.notes new.notes below noted all.items (λ text own. record {
+      lies = record { place = within; range = let at : from + length text ≤ length bytes = (stands text own).0 in let long' : place.length ≡ length bytes = long in omega arith };
+      size = refl;
+    });
+    base = base_entered (IsBefore gate) old.kept.texts i place from old.notes new.notes unnamed noted all.base;
+  });
+  lie = λ payloads lies all. subst (TextsStored payloads new.notes) (sym is) (record {
+    items = entered old.kept.first (IsStored payloads) old.kept.timeline (items_behind old.kept.undone) i place from old.notes new.notes below noted all.items (λ text own. record {
+      payload = bytes;
+      lies = lies;
+      bytes = (stands text own).1;
+    });
+    base = base_entered (IsStored payloads) old.kept.texts i place from old.notes new.notes unnamed noted all.base;
+  });
 }
 
 -- ---- a disk that was read
@@ -155,7 +156,7 @@ module _ {D : Type 0} (told : D → DiskTold) where
         texts = record {
           held = record { honest = after.honest; front = λ c now. ((after.images c now).rest, (after.images c now).split) };
           lie = lie (holds.payloads ++ bytes ∷ []) (record { before = holds.payloads; after = []; split = refl; gate_is = before.gate_is; count_is = refl })
-              (texts_stay stays holds.payloads (bytes ∷ []) a.notes (items_asked a.kept) holds.texts.lie);
+              (texts_stay stays holds.payloads (bytes ∷ []) a.notes a.kept holds.texts.lie);
           revs = revs holds.texts.revs holds.texts.back;
           back = back holds.texts.revs holds.texts.back;
           runs = runs holds.texts.runs;
@@ -167,47 +168,43 @@ module _ {D : Type 0} (told : D → DiskTold) where
 
 -- ---- at first
 
--- no text may be asked for
-none_asked : (kept : Kept) → kept.timeline ≡ [] → kept.undone ≡ None → items_asked kept ≡ []
-none_asked kept none last = ap₂ (λ (t : List Item) (o : Option UndoneBehind). t ++ items_behind o) none last
+-- what is known of a desk that was just founded: nothing can come back, no snapshot was taken, the store is what the items leave, and
+-- revs are below the next number
+pub record IsFirst (kept : Kept) : Type 0 where
+  pub undone : kept.undone ≡ None
+  pub unmarked : kept.marks.places ≡ []
+  pub runs : IsRun kept
+  pub revs : RevsBelow kept
 
--- nothing is noted where nothing was done
-pub held_none : (disk : DiskTold) (payloads : List (List ℕ)) (kept : Kept) (notes : List (Body × Note)) (marks : List (ℕ × Place)) → Holds disk payloads → kept.timeline ≡ [] → kept.undone ≡ None → marks ≡ [] → IsRun kept
-    → TextsHeld disk payloads kept notes marks
-held_none disk payloads kept notes marks held none last unmarked runs = record {
+-- its texts lie where they are noted
+pub held_first : (disk : DiskTold) (payloads : List (List ℕ)) (kept : Kept) (notes : List (Body × Note)) (marks : List (ℕ × Place)) → Holds disk payloads → TextsStored payloads notes kept → marks ≡ []
+    → IsFirst kept → TextsHeld disk payloads kept notes marks
+held_first disk payloads kept notes marks held lie unmarked is = record {
   held = held;
-  lie = subst (TextsLie payloads notes) (sym (none_asked kept none last)) tt;
-  revs = subst (λ (t : List Item). AllByRecursion (λ (i : Item). i.rev < kept.next) t) (sym none) tt;
-  back = subst (TextsComeIf kept.timeline) (sym last) tt;
-  runs = runs;
+  lie = lie;
+  revs = is.revs;
+  back = subst (TextsComeIf kept.timeline) (sym is.undone) tt;
+  runs = is.runs;
   marks = subst (MarksLie payloads kept) (sym unmarked) tt;
 }
 
-pub noted_none : (gate : ℕ) (kept : Kept) (notes : List (Body × Note)) → kept.timeline ≡ [] → kept.undone ≡ None → TextsNoted gate notes kept
-noted_none gate kept notes none last = subst (NotedBefore gate notes) (sym (none_asked kept none last)) tt
+-- nothing is noted where nothing was done
+pub none_noted : (P : Note → List ℕ → Type 0) (notes : List (Body × Note)) (kept : Kept) → kept.timeline ≡ [] → kept.undone ≡ None → kept.texts ≡ [] → AllNoted kept.first P notes kept.texts (items_asked kept)
+none_noted P notes kept none last bare = record {
+  items = subst (AllByRecursion (HasNote kept.first P notes)) (sym (ap₂ (λ (t : List Item) (o : Option UndoneBehind). t ++ items_behind o) none last)) tt;
+  base = subst (AllByRecursion (BaseHasNote P notes)) (sym bare) tt;
+}
 
-pub holds_first : {D : Type 0} (told : D → DiskTold) (desk : Lasting D) (payloads : List (List ℕ)) → IsSettled (told desk.disk) desk.gate payloads → desk.kept.timeline ≡ [] → desk.kept.undone ≡ None → desk.marks ≡ [] → IsRun desk.kept → HoldsTexts told desk
-holds_first told desk payloads settled none last unmarked runs = record {
+pub holds_first : {D : Type 0} (told : D → DiskTold) (desk : Lasting D) (payloads : List (List ℕ)) → IsSettled (told desk.disk) desk.gate payloads → TextsStored payloads desk.notes desk.kept → desk.marks ≡ [] → IsFirst desk.kept → HoldsTexts told desk
+holds_first told desk payloads settled lie unmarked is = record {
   payloads = payloads;
-  texts = held_none (told desk.disk) payloads desk.kept desk.notes desk.marks (record { honest = settled.honest; front = λ c now. ((settled.images c now).rest, (settled.images c now).split) }) none last unmarked runs;
+  texts = held_first (told desk.disk) payloads desk.kept desk.notes desk.marks (record { honest = settled.honest; front = λ c now. ((settled.images c now).rest, (settled.images c now).split) }) lie unmarked is;
   settled = λ is. settled;
 }
 
--- nothing is in force behind a first record, and nothing can come back
-pub first_none : (what : JournalRecord) (kept : Kept) → first_state what ≡ Some kept → (kept.timeline ≡ []) × (kept.undone ≡ None)
-first_none (Format house conf) kept is = elim (is_spelled (Format house conf) && can_begin house conf) as (λ b. cond b (Some (new_desk house conf)) None ≡ Some kept → (kept.timeline ≡ []) × (kept.undone ≡ None)) [
-  | true ↦ λ e. let same : new_desk house conf ≡ kept = cc in (ap (λ (k : Kept). k.timeline) (sym same), ap (λ (k : Kept). k.undone) (sym same))
-  | false ↦ λ e. absurd (cc e)
-] is
-first_none _ kept is = absurd (cc is)
-
--- and no snapshot was taken
-pub first_unmarked : (what : JournalRecord) (kept : Kept) → first_state what ≡ Some kept → (kept.marks.places ≡ []) × IsRun kept
-first_unmarked (Format house conf) kept is = elim (is_spelled (Format house conf) && can_begin house conf) as (λ b. cond b (Some (new_desk house conf)) None ≡ Some kept → (kept.marks.places ≡ []) × IsRun kept) [
-  | true ↦ λ e. let same : new_desk house conf ≡ kept = cc in subst (λ (k : Kept). (k.marks.places ≡ []) × IsRun k) same (refl, refl)
-  | false ↦ λ e. absurd (cc e)
-] is
-first_unmarked _ kept is = absurd (cc is)
+-- a desk on which nothing was done yet
+pub new_first : (house : House) (conf : Conf) → IsFirst (new_desk house conf)
+new_first house conf = record { undone = refl; unmarked = refl; runs = refl; revs = record { items = tt; base = tt } }
 
 -- where no number is marked no snapshot is
 pub none_marked : (marks : List (ℕ × Place)) → map (λ (m : ℕ × Place). m.0) marks ≡ [] → marks ≡ []

@@ -1,3 +1,4 @@
+pub mod Lengths
 pub mod Beginnings
 pub mod Payloads
 pub mod Looking
@@ -8,7 +9,10 @@ pub mod Noting
 pub mod Marking
 pub mod Holding
 pub mod Entering
+pub mod Once
+pub mod Fronts
 pub mod Truth
+pub mod Founded
 pub mod Runs
 pub mod Sealed
 pub mod Submits

@@ -14,10 +14,11 @@ use Rattle.verb_bytes.specs.Spelling.{record_bytes}
 use Rattle.store_kept.specs.Kept.{Kept}
 use Rattle.desk_journal.specs.Crashing.{LeavesFront}
 use Rattle.desk_journal.specs.Lasting.{IsUnwritten, Lasting}
-use Rattle.desk_journal.specs.Records.{after_record, after_records, all_true, are_true, first_state, payloads_of, state}
+use Rattle.desk_journal.specs.Records.{after_record, after_records, all_true, are_true, behind, front, is_behind, opening_state, payloads_of, state}
 use Rattle.desk_journal.specs.Reading.{IsStill}
 use Rattle.desk_journal.specs.Sealing.{ReadNoTexts, Seals, SealsPayloads, reads_texts}
 use Rattle.desk_journal.specs.Stored.{HoldsTexts}
+use Rattle.desk_journal.proofs.Fronts.{all_behind, behind_grows, behind_whole, front_stays}
 use Rattle.desk_journal.proofs.Holding.{holds_same}
 use Rattle.desk_journal.proofs.Payloads.{none_read, payloads_then}
 use Rattle.desk_journal.proofs.Staying.{holds_on, settled_on}
@@ -35,14 +36,32 @@ after_append kept (r ∷ rs) more = step (λ next. after_append next rs more) (a
     step rest None = refl
     step rest (Some next) = rest next
 
--- a journal's records, and more
-pub state_append : (records more : List JournalRecord) (kept : Kept) → state records ≡ Some kept → state (records ++ more) ≡ after_records kept more
-state_append [] more kept e = cc
-state_append (r ∷ rs) more kept e = step (first_state r) e
+-- a journal's records, and more that stand behind its front
+pub state_append : (records more : List JournalRecord) (kept : Kept) → is_behind more ≡ true → state records ≡ Some kept → state (records ++ more) ≡ after_records kept more
+state_append [] more kept is e = absurd (cc e)
+state_append (r ∷ rs) more kept is e =
+    (λ j. option_and_then (λ (k : Kept). after_records k (behind_grows (r ∷ rs) more (λ none. absurd (cc none)) is j)) (opening_state (front_stays (r ∷ rs) more (λ none. absurd (cc none)) is j)))
+    ∙ step (opening_state (front (r ∷ rs))) e
   where
-    step : (first : Option Kept) → option_and_then (λ (k : Kept). after_records k rs) first ≡ Some kept → option_and_then (λ (k : Kept). after_records k (rs ++ more)) first ≡ after_records kept more
-    step None e = cc
-    step (Some first) e = after_append first rs more ∙ ap (option_and_then (λ (k : Kept). after_records k more)) e
+    step : (first : Option Kept) → option_and_then (λ (k : Kept). after_records k (behind (r ∷ rs))) first ≡ Some kept
+        → option_and_then (λ (k : Kept). after_records k (behind (r ∷ rs) ++ more)) first ≡ after_records kept more
+    step None e = absurd (cc e)
+    step (Some first) e = after_append first (behind (r ∷ rs)) more ∙ ap (option_and_then (λ (k : Kept). after_records k more)) e
+
+-- the same of more that can stand
+pub state_then : (records more : List JournalRecord) (kept new : Kept) → state records ≡ Some kept → after_records kept more ≡ Some new → state (records ++ more) ≡ Some new
+state_then records more kept new e can = state_append records more kept (all_behind kept new more can) e ∙ can
+
+-- and of more behind records that have the whole front
+pub state_whole : (records more : List JournalRecord) (kept : Kept) → front (records ++ more) ≡ front records → state records ≡ Some kept → state (records ++ more) ≡ after_records kept more
+state_whole records more kept whole e =
+    (λ j. option_and_then (λ (k : Kept). after_records k (behind_whole records more whole j)) (opening_state (whole j)))
+    ∙ step (opening_state (front records)) e
+  where
+    step : (first : Option Kept) → option_and_then (λ (k : Kept). after_records k (behind records)) first ≡ Some kept
+        → option_and_then (λ (k : Kept). after_records k (behind records ++ more)) first ≡ after_records kept more
+    step None e = absurd (cc e)
+    step (Some first) e = after_append first (behind records) more ∙ ap (option_and_then (λ (k : Kept). after_records k more)) e
 
 -- where records can stand, the first of them can
 pub after_front : (kept : Kept) (records : List JournalRecord) (count : ℕ) → IsSome (after_records kept records) → IsSome (after_records kept (take count records))
@@ -54,6 +73,10 @@ after_front kept (r ∷ rs) (suc count) can = step (λ next. after_front next rs
         → (next : Option Kept) → IsSome (option_and_then (λ (k : Kept). after_records k rs) next) → IsSome (option_and_then (λ (k : Kept). after_records k (take count rs)) next)
     step rest None can = cc
     step rest (Some next) can = rest next can
+
+some_kept : (found : Option Kept) → IsSome found → (kept : Kept) × (found ≡ Some kept)
+some_kept None can = absurd (cc can)
+some_kept (Some kept) can = (kept, refl)
 
 -- ---- what calls seal
 
@@ -133,7 +156,7 @@ module _ {D : Type 0} (told : D → DiskTold) where
 
   -- what was sealed is what the journal's records leave
   pub seals_state : (records added : List JournalRecord) (a b : Lasting D) → state records ≡ Some a.kept → HoldsTexts told a ⊎ ReadNoTexts added → Seals told added [] a b → state (records ++ added) ≡ Some b.kept
-  seals_state records added a b e as_stored seals = state_append records added a.kept e ∙ seals.kept as_stored
+  seals_state records added a b e as_stored seals = state_then records added a.kept b.kept e (seals.kept as_stored)
 
   -- all that was to be sealed could stand
   all_stand : (added failed : List JournalRecord) (a b : Lasting D) → HoldsTexts told a ⊎ ReadNoTexts added → Seals told added failed a b → IsSome (after_records a.kept (added ++ failed))
@@ -145,7 +168,7 @@ module _ {D : Type 0} (told : D → DiskTold) where
   crash_leaves records added failed a b image e as_stored seals front =
       let count = front.count in
       let others = added ++ failed in
-      let can = some_of (after_records a.kept (take count others)) (after_front a.kept others count (all_stand added failed a b as_stored seals)) in
+      let can = some_kept (after_records a.kept (take count others)) (after_front a.kept others count (all_stand added failed a b as_stored seals)) in
       record {
         count = count;
         few = subst (λ (n : ℕ). count ≤ n) (length-map others record_bytes) front.few;
@@ -153,22 +176,22 @@ module _ {D : Type 0} (told : D → DiskTold) where
             (ap (λ (l : List (List ℕ)). payloads_of records ++ l) (take-map record_bytes count others) ∙ sym (map-append record_bytes records (take count others)))
             front.stands;
         kept = can.0;
-        state_is = state_append records (take count others) a.kept e ∙ can.1;
+        state_is = state_then records (take count others) a.kept can.0 e can.1;
       }
-    where
-      some_of : (found : Option Kept) → IsSome found → (kept : Kept) × (found ≡ Some kept)
-      some_of None can = cc
-      some_of (Some kept) can = (kept, refl)
 
   -- ---- what is true stays true
 
   -- true records, and those that were sealed behind them, and the one whose sealing failed
   pub records_stay_true : (records added failed : List JournalRecord) (a b : Lasting D) → state records ≡ Some a.kept → HoldsTexts told a ⊎ ReadNoTexts added → Seals told added failed a b → are_true records ≡ true
       → are_true (records ++ (added ++ failed)) ≡ true
-  records_stay_true records added failed a b e as_stored seals truth = journal_more records (added ++ failed) a.kept e truth (seals.truth as_stored)
+  records_stay_true records added failed a b e as_stored seals truth =
+      let can = some_kept (after_records a.kept (added ++ failed)) (all_stand added failed a b as_stored seals) in
+      journal_more records (added ++ failed) a.kept (all_behind a.kept can.0 (added ++ failed) can.1) e truth (seals.truth as_stored)
 
   -- and as many of them as a crash leaves
   pub crash_stays_true : (records added failed : List JournalRecord) (a b : Lasting D) (count : ℕ) → state records ≡ Some a.kept → HoldsTexts told a ⊎ ReadNoTexts added → Seals told added failed a b → are_true records ≡ true
       → are_true (records ++ take count (added ++ failed)) ≡ true
   crash_stays_true records added failed a b count e as_stored seals truth =
-      journal_more records (take count (added ++ failed)) a.kept e truth (true_front a.kept (added ++ failed) count (seals.truth as_stored))
+      let others = added ++ failed in
+      let can = some_kept (after_records a.kept (take count others)) (after_front a.kept others count (all_stand added failed a b as_stored seals)) in
+      journal_more records (take count others) a.kept (all_behind a.kept can.0 (take count others) can.1) e truth (true_front a.kept others count (seals.truth as_stored))

@@ -13,8 +13,7 @@ use Rattle.verb_bytes.specs.declared.journal.JournalRecord.{JournalRecord}
 use Rattle.verb_bytes.specs.Spelling.{record_bytes}
 use Rattle.shelf.specs.declared.note.Note.{Note}
 use Rattle.store_kept.specs.Coming.{HasUndone, HasUndoneTexts}
-use Rattle.store_kept.specs.Kept.{IsRun, Kept, performed}
-use Rattle.store_kept.specs.Texts.{items_asked}
+use Rattle.store_kept.specs.Kept.{IsRun, Kept, origin_of, performed}
 use Rattle.store_kept.proofs.Coming.{texts_on}
 use Rattle.mail_desk.specs.Held.{Held}
 use Rattle.desk_journal.specs.Lasting.{JournalTold, Lasting, lasting}
@@ -46,7 +45,7 @@ pub noted_on : (gate next : ℕ) (bytes : List ℕ) (before after : Held) → ne
     → TextsNoted gate before.notes before.kept → TextsNoted next after.notes after.kept
 noted_on gate next bytes before after is notes noted =
     subst (λ n. TextsNoted n after.notes after.kept) (sym is)
-    (notes.before (noted_later gate (gate + 5 + length bytes) before.notes (items_asked before.kept) (omega arith) noted))
+    (notes.before (noted_later gate (gate + 5 + length bytes) before.notes before.kept (omega arith) noted))
 
 -- the same of a desk to which nothing was done
 pub noted_same : (gate next : ℕ) (before after : Held) → next ≡ gate → after.kept ≡ before.kept → after.notes ≡ before.notes
@@ -174,7 +173,7 @@ module _ {D : Type 0} (told : D → DiskTold) where
       seals_one what bytes before after old new made.bytes_are made.truth seals open_ still (ap (λ (k : Kept). k.house) done) (λ why. can)
       (λ holds. holds_sealed told (lasting before old) (lasting after new) bytes lies_longer open_ (λ payloads settled. seals.settled payloads settled refl)
       (λ payloads lies all. noted.lie payloads lies all) (λ revs back. subst RevsBelow (sym done) (item_revs before.kept item none revs))
-      (λ revs back. subst HasUndoneTexts (sym done) (texts_on before.kept.house before.kept.base before.kept.timeline before.kept.next item before.kept.undone number undone back))
+      (λ revs back. subst HasUndoneTexts (sym done) (texts_on (origin_of before.kept) before.kept.timeline before.kept.next item before.kept.undone number undone back))
       (λ runs. subst IsRun (sym done) (item_runs before.kept item runs))
       (λ payloads lies runs all. subst (MarksLie payloads after.kept) (sym same)
       (marks_entered payloads before.kept after.kept item before.marks (ap (λ (k : Kept). k.base) done) (ap (λ (k : Kept). k.timeline) done) all)) holds)

@@ -15,7 +15,6 @@ use Rattle.box_store.specs.Making.{makes_store, store_of_rows}
 use Rattle.mail_desk.specs.Held.{Held}
 use Rattle.store_kept.specs.Coming.{HasUndoneTexts}
 use Rattle.store_kept.specs.Kept.{IsRun, Kept, passed, snapshotted, store_of}
-use Rattle.store_kept.specs.Texts.{items_asked}
 use Rattle.desk_journal.specs.Lasting.{JournalTold, Lasting, lasting}
 use Rattle.desk_journal.specs.Permanence.{RevsBelow}
 use Rattle.desk_journal.specs.Records.{after_kept, after_record, can_keep, is_spelled, snapshot_record}
@@ -49,7 +48,7 @@ pub noted_snapshot : (gate next : ℕ) (bytes : List ℕ) (before after : Held) 
     → TextsNoted gate before.notes before.kept → TextsNoted next after.notes after.kept
 noted_snapshot gate next bytes before after is kept notes noted =
     subst (TextsNoted next after.notes) (sym kept) (subst (λ (n : List (Body × Note)). TextsNoted next n before.kept) (sym notes)
-    (noted_later gate next before.notes (items_asked before.kept) (omega (arith, is)) noted))
+    (noted_later gate next before.notes before.kept (omega (arith, is)) noted))
 
 -- it is marked before the later gate
 pub marked_snapshot : (gate next n : ℕ) (bytes : List ℕ) (before after : List (ℕ × Place)) → next ≡ gate + 5 + length bytes → after ≡ with_mark n (record { gate = gate; length = length bytes }) before

@@ -103,41 +103,49 @@ replaced_kept c replaces place bytes old new some keeps lie number text e = let 
 
 -- ---- texts that acts give
 
-recorded_act : (n at : ℕ) (act : Act) → recorded_in (act_item n at act) ≡ text_in (Acts act)
+recorded_act : (first n at : ℕ) (act : Act) → recorded_in first (act_item n at act) ≡ text_in (Acts act)
 unfolding is_notice
-recorded_act n at act = refl
+recorded_act first n at act = refl
+
+-- an act's text is in its record, from whatever number on a journal draws
+pub given_any : (k first : ℕ) (P : Note → List ℕ → Type 0) (c at : ℕ) (acts : List Act) (notes : Notes) → AllByRecursion (HasNote k P notes) (inserted c at acts) → AllByRecursion (HasNote first P notes) (inserted c at acts)
+given_any k first P c at [] notes all = tt
+given_any k first P c at (act ∷ acts) notes all = (
+  (λ text e. all.0 text (recorded_act k (c + 1) at act ∙ sym (recorded_act first (c + 1) at act) ∙ e)),
+  given_any k first P (c + 1) at acts notes all.1,
+)
 
 -- a note of a later number leaves those of the acts before it
-given_stay : (P : Note → List ℕ → Type 0) (c at m : ℕ) (acts : List Act) (note : Note) (old new : Notes) → c + length acts < m → NotesOnly old new (body m 0) note
-    → AllByRecursion (HasNote P old) (inserted c at acts) → AllByRecursion (HasNote P new) (inserted c at acts)
-given_stay P c at m [] note old new lt only all = tt
-given_stay P c at m (act ∷ acts) note old new lt only all =
+given_stay : (first : ℕ) (P : Note → List ℕ → Type 0) (c at m : ℕ) (acts : List Act) (note : Note) (old new : Notes) → c + length acts < m → NotesOnly old new (body m 0) note
+    → AllByRecursion (HasNote first P old) (inserted c at acts) → AllByRecursion (HasNote first P new) (inserted c at acts)
+given_stay first P c at m [] note old new lt only all = tt
+given_stay first P c at m (act ∷ acts) note old new lt only all =
     let differ : m ≢ c + 1 = λ same. absurd (omega arith) in (
       (λ text e. let before = all.0 text e in (before.0, other_origin old new (body m 0) (body (c + 1) 0) note only (other_number m (c + 1) differ) ∙ before.1, before.2)),
-      given_stay P (c + 1) at m acts note old new (omega arith) only all.1,
+      given_stay first P (c + 1) at m acts note old new (omega arith) only all.1,
     )
 
-given_last : (P : Note → List ℕ → Type 0) (c at m : ℕ) (acts : List Act) (act : Act) (notes : Notes) → m ≡ c + length acts + 1 → HasNote P notes (act_item m at act)
-    → AllByRecursion (HasNote P notes) (inserted c at acts) → AllByRecursion (HasNote P notes) (inserted c at (acts ++ act ∷ []))
-given_last P c at m [] act notes is here all = let same : m ≡ c + 1 = omega arith in (subst (λ (n : ℕ). HasNote P notes (act_item n at act)) same here, tt)
-given_last P c at m (a ∷ acts) act notes is here all = (all.0, given_last P (c + 1) at m acts act notes (omega arith) here all.1)
+given_last : (first : ℕ) (P : Note → List ℕ → Type 0) (c at m : ℕ) (acts : List Act) (act : Act) (notes : Notes) → m ≡ c + length acts + 1 → HasNote first P notes (act_item m at act)
+    → AllByRecursion (HasNote first P notes) (inserted c at acts) → AllByRecursion (HasNote first P notes) (inserted c at (acts ++ act ∷ []))
+given_last first P c at m [] act notes is here all = let same : m ≡ c + 1 = omega arith in (subst (λ (n : ℕ). HasNote first P notes (act_item n at act)) same here, tt)
+given_last first P c at m (a ∷ acts) act notes is here all = (all.0, given_last first P (c + 1) at m acts act notes (omega arith) here all.1)
 
 given_more : (c at m : ℕ) (acts : List Act) (act : Act) (given : Option (List ℕ)) (texts : List (List ℕ)) (place : Place) (bytes : List ℕ) (rest left : List TextPlace) (old new : Notes) → text_in (Acts act) ≡ given
     → m ≡ c + length acts + 1 → TakesGiven place (body m 0) given rest left old new
     → AllZip (LiesThere bytes) rest (cons_option given texts) × GivenLie c at acts place bytes old
     → AllZip (LiesThere bytes) left texts × GivenLie c at (acts ++ act ∷ []) place bytes new
 given_more c at m acts act None texts place bytes rest left old new none is takes all =
-    let here : HasNote (LiesIn place bytes) new (act_item m at act) = λ text e. let clash : None ≡ Some text = sym none ∙ sym (recorded_act m at act) ∙ e in cc in (
+    let here : HasNote c (LiesIn place bytes) new (act_item m at act) = λ text e. let clash : None ≡ Some text = sym none ∙ sym (recorded_act c m at act) ∙ e in absurd (cc clash) in (
       subst (λ (xs : List TextPlace). AllZip (LiesThere bytes) xs texts) (sym takes.0) all.0,
-      given_last (LiesIn place bytes) c at m acts act new is here (subst (GivenLie c at acts place bytes) (sym takes.1) all.1),
+      given_last c (LiesIn place bytes) c at m acts act new is here (subst (GivenLie c at acts place bytes) (sym takes.1) all.1),
     )
 given_more c at m acts act (Some given) texts place bytes rest left old new some is takes all =
-    let first = first_text bytes rest left takes.spot given texts takes.is all.0 in
-    let here : HasNote (LiesIn place bytes) new (act_item m at act) = λ text e.
-    let same : Some given ≡ Some text = sym some ∙ sym (recorded_act m at act) ∙ e in
+    let spot = first_text bytes rest left takes.spot given texts takes.is all.0 in
+    let here : HasNote c (LiesIn place bytes) new (act_item m at act) = λ text e.
+    let same : Some given ≡ Some text = sym some ∙ sym (recorded_act c m at act) ∙ e in
     let text_is : given ≡ text = cc in
-    (note_at place takes.spot, noted old new (body m 0) (note_at place takes.spot) takes.notes, subst (LiesIn place bytes (note_at place takes.spot)) text_is (lies_in place bytes takes.spot given first.0)) in
-    (first.1, given_last (LiesIn place bytes) c at m acts act new is here (given_stay (LiesIn place bytes) c at m acts (note_at place takes.spot) old new (omega arith) takes.notes all.1))
+    (note_at place takes.spot, noted old new (body m 0) (note_at place takes.spot) takes.notes, subst (LiesIn place bytes (note_at place takes.spot)) text_is (lies_in place bytes takes.spot given spot.0)) in
+    (spot.1, given_last c (LiesIn place bytes) c at m acts act new is here (given_stay c (LiesIn place bytes) c at m acts (note_at place takes.spot) old new (omega arith) takes.notes all.1))
 
 pub act_noted : (c at : ℕ) (acts : List Act) (k : ℕ) (act : Act) (m : ℕ) (place : Place) (bytes : List ℕ) (rest left : List TextPlace) (old new : Notes) → k < length acts → act ≡ get_or acts k act → m ≡ c + k + 1
     → length (take k acts) ≡ k → TakesGiven place (body m 0) (text_in (Acts act)) rest left old new

@@ -1,5 +1,5 @@
 -- Records that are true.
-use Rattle.std.proofs.Common.{◌≡◌, ℕ, zero, suc, ◌&&◌, Bool, true, false, cond, List, [], ◌∷◌, ◌++◌, take, Option, Some, None, Ok, eqb-true, ap, ap₂, refl, sym, subst}
+use Rattle.std.proofs.Common.{◌≡◌, ℕ, zero, suc, ◌&&◌, Bool, true, false, cond, List, [], ◌∷◌, ◌++◌, take, Option, Some, None, Ok, eqb-true, ap, ap₂, refl, sym, subst, ◌∙◌}
 use Rattle.std.specs.Prelude.{option_and_then}
 use Rattle.std.specs.Option.{option_map_or}
 use Rattle.std.specs.Coded.{Coded}
@@ -15,11 +15,11 @@ use Rattle.verb_core.specs.Live.{answered, live}
 use Rattle.verb_bytes.specs.declared.journal.CycleAsk.{CycleAsk}
 use Rattle.verb_bytes.specs.declared.journal.JournalRecord.{JournalRecord}
 use Rattle.verb_bytes.specs.declared.journal.JournalRecord.TheVariants.{Format, Verb, Operator, Cycle, Upgrade}
-use Rattle.house_text.specs.Beginning.{can_begin}
-use Rattle.store_kept.specs.Kept.{Kept, new_desk, store_of}
+use Rattle.store_kept.specs.Kept.{Kept, store_of}
 use Rattle.mail_desk.proofs.Readied.{asked_is}
-use Rattle.desk_journal.specs.Records.{after_record, after_records, all_true, are_true, is_spelled, is_true, opening_state, record_code, snapshot_record, state, true_record}
+use Rattle.desk_journal.specs.Records.{after_record, after_records, all_true, are_true, behind, front, is_behind, is_true, opening_state, record_code, snapshot_record, state, true_record}
 use Rattle.desk_journal.specs.Sameness.{is_same, same_codes}
+use Rattle.desk_journal.proofs.Fronts.{behind_grows, front_stays}
 
 -- ---- the test
 
@@ -115,18 +115,20 @@ true_front kept (r ∷ rs) (suc count) truth = by (after_record kept r) parts.1 
 -- ---- a journal's
 
 pub first_true : (house : House) (conf : Conf) → are_true (Format house conf ∷ []) ≡ true
-first_true house conf = by (is_spelled (Format house conf) && can_begin house conf)
+first_true house conf = by (opening_state (Format house conf ∷ []))
   where
-    by : (b : Bool) → option_map_or (λ (kept : Kept). all_true kept []) (cond b (Some (new_desk house conf)) None) true ≡ true
-    by true = refl
-    by false = refl
+    by : (o : Option Kept) → option_map_or (λ (kept : Kept). all_true kept []) o true ≡ true
+    by None = refl
+    by (Some kept) = refl
 
 -- true records, and more that are true behind them
-pub journal_more : (records more : List JournalRecord) (kept : Kept) → state records ≡ Some kept → are_true records ≡ true → all_true kept more ≡ true → are_true (records ++ more) ≡ true
-journal_more [] more kept is truth then_true = absurd (cc is)
-journal_more (r ∷ rs) more kept is truth then_true = by (opening_state (r ∷ [])) is truth
+pub journal_more : (records more : List JournalRecord) (kept : Kept) → is_behind more ≡ true → state records ≡ Some kept → are_true records ≡ true → all_true kept more ≡ true → are_true (records ++ more) ≡ true
+journal_more [] more kept on is truth then_true = absurd (cc is)
+journal_more (r ∷ rs) more kept on is truth then_true =
+    (λ j. option_map_or (λ (first : Kept). all_true first (behind_grows (r ∷ rs) more (λ none. absurd (cc none)) on j)) (opening_state (front_stays (r ∷ rs) more (λ none. absurd (cc none)) on j)) true)
+    ∙ by (opening_state (front (r ∷ rs))) is truth
   where
-    by : (o : Option Kept) → option_and_then (λ (first : Kept). after_records first rs) o ≡ Some kept → option_map_or (λ (first : Kept). all_true first rs) o true ≡ true
-        → option_map_or (λ (first : Kept). all_true first (rs ++ more)) o true ≡ true
+    by : (o : Option Kept) → option_and_then (λ (first : Kept). after_records first (behind (r ∷ rs))) o ≡ Some kept → option_map_or (λ (first : Kept). all_true first (behind (r ∷ rs))) o true ≡ true
+        → option_map_or (λ (first : Kept). all_true first (behind (r ∷ rs) ++ more)) o true ≡ true
     by None e t = refl
-    by (Some first) e t = true_append first kept rs more e t then_true
+    by (Some first) e t = true_append first kept (behind (r ∷ rs)) more e t then_true

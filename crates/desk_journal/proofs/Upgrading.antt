@@ -10,7 +10,6 @@ use Rattle.verb_core.specs.declared.mailbox.Body.{Body}
 use Rattle.mail_desk.specs.Held.{Held}
 use Rattle.store_kept.specs.Coming.{HasUndoneTexts}
 use Rattle.store_kept.specs.Kept.{IsRun, Kept, upgraded}
-use Rattle.store_kept.specs.Texts.{items_asked}
 use Rattle.desk_journal.specs.Lasting.{JournalTold, Lasting, lasting}
 use Rattle.desk_journal.specs.Permanence.{RevsBelow}
 use Rattle.desk_journal.specs.Records.{after_record, is_spelled}
@@ -44,7 +43,7 @@ pub noted_upgrade : (gate next : ℕ) (bytes : List ℕ) (before after : Held) �
     → TextsNoted gate before.notes before.kept → TextsNoted next after.notes after.kept
 noted_upgrade gate next bytes before after is kept notes noted =
     subst (TextsNoted next after.notes) (sym kept) (subst (λ (n : List (Body × Note)). TextsNoted next n before.kept) (sym notes)
-    (noted_later gate next before.notes (items_asked before.kept) (omega (arith, is)) noted))
+    (noted_later gate next before.notes before.kept (omega (arith, is)) noted))
 
 -- one that is deep is as an upgrade leaves it
 pub upgraded_again : (kept : Kept) → kept.deep ≡ true → kept ≡ upgraded kept

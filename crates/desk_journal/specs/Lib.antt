@@ -1,6 +1,9 @@
 pub mod Lasting
 pub mod Stored
 pub mod Sameness
+pub mod Formed
+pub mod Founding
+pub mod Once
 pub mod Records
 pub mod Reading
 pub mod Sealing

@@ -5,6 +5,7 @@ use Rattle.std.specs.Option.{option_map_or}
 use Rattle.undo_base.specs.declared.keys.Key.{Key}
 use Rattle.undo_base.specs.declared.keys.User.{User}
 use Rattle.verb_core.specs.declared.item.Item.{Item}
+use Rattle.verb_core.specs.declared.mailbox.Body.{Body}
 use Rattle.verb_core.specs.declared.mailbox.BoxId.{BoxId}
 use Rattle.verb_core.specs.declared.mailbox.Entry.{Entry}
 use Rattle.verb_core.specs.declared.mailbox.Mailbox.{Mailbox}
@@ -15,7 +16,7 @@ use Rattle.verb_core.specs.Step.{run}
 use Rattle.verb_core.specs.Store.{is_house, is_known}
 use Rattle.store_kept.specs.Bases.{HasBase}
 use Rattle.store_kept.specs.Coming.{HasUndone}
-use Rattle.store_kept.specs.Kept.{IsRun, Kept, stamp_at, store_of}
+use Rattle.store_kept.specs.Kept.{BaseTexts, IsRun, Kept, stamp_at, store_of}
 use Rattle.store_kept.specs.Texts.{text_kept}
 
 -- ---- messages by UID
@@ -56,9 +57,14 @@ pub record IsSound (kept : Kept) : Type 0 where
   pub fresh : AllByRecursion (λ (r : BoxId × ℕ). r.1 < kept.next) kept.stamps
   pub undone : HasUndone kept
 
--- each text has a rev below the next number: 0, or the number of the cycle that replaced it
+-- each text, of items and of a base, has a rev below a number: 0, or the number of the cycle that replaced it
+pub record RevsUnder (next : ℕ) (timeline : List Item) (texts : BaseTexts) : Type 0 where
+  pub items : AllByRecursion (λ (i : Item). i.rev < next) timeline
+  pub base : AllByRecursion (λ (t : Body × List ℕ). t.0.rev < next) texts
+
+-- below the next number
 abbrev pub RevsBelow : Kept → Type 0
-RevsBelow kept = AllByRecursion (λ (i : Item). i.rev < kept.next) kept.timeline
+RevsBelow kept = RevsUnder kept.next kept.timeline kept.texts
 
 -- ---- what becomes of messages
 

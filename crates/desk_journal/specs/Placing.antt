@@ -41,7 +41,7 @@ ReplacedLie c replaces place bytes notes = (number : ℕ) (text : List ℕ) → 
 
 -- so does each text that acts give, noted of the act's item
 abbrev pub GivenLie : ℕ → ℕ → List Act → Place → List ℕ → List (Body × Note) → Type 0
-GivenLie c at acts place bytes notes = AllByRecursion (HasNote (LiesIn place bytes) notes) (inserted c at acts)
+GivenLie c at acts place bytes notes = AllByRecursion (HasNote c (LiesIn place bytes) notes) (inserted c at acts)
 
 -- the notes of bodies that have been replaced stay
 abbrev pub KeepsReplaced : List (Body × Note) → List (Body × Note) → Type 0

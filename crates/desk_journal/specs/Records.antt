@@ -1,39 +1,30 @@
 -- Records, what they leave one after the other, and when one can stand.
 use Rattle.std.specs.Prelude.{◌≡◌, ℕ, ◌==◌, nat_lt, Bool, true, false, ◌&&◌, not, List, [], ◌∷◌, map, length, nat_le, is_some, Option, Some, None, option_and_then, option_map, if◌then◌else◌}
 use Rattle.std.specs.Coded.{Coded, codes}
-use Rattle.std.specs.List.{list_all, cons_option}
 use Rattle.std.specs.Option.{option_map_or}
 use Rattle.verb_core.specs.Deeds.{act_item}
 use Rattle.verb_core.specs.declared.conf.Conf.{Conf}
-use Rattle.verb_core.specs.declared.conf.House.{House}
 use Rattle.verb_core.specs.declared.item.Item.{Item}
 use Rattle.verb_core.specs.declared.mailbox.BoxId.{BoxId}
 use Rattle.verb_core.specs.declared.mailbox.Mailbox.{Mailbox}
-use Rattle.verb_core.specs.Items.{is_own, users_in, keys_in, has_form}
 use Rattle.verb_core.specs.Live.{answered}
-use Rattle.verb_core.specs.Store.{is_known}
 use Rattle.verb_bytes.specs.declared.journal.CycleAsk.{CycleAsk}
 use Rattle.verb_bytes.specs.declared.journal.JournalRecord.{JournalRecord}
 use Rattle.verb_bytes.specs.declared.journal.JournalRecord.TheVariants.{Format, Verb, Operator, Cycle, Snapshot, Upgrade, Withdraw}
-use Rattle.verb_bytes.specs.Fields.{are_in_range}
-use Rattle.verb_bytes.specs.Spelling.{record_bytes, record_fields}
+use Rattle.verb_bytes.specs.Spelling.{record_bytes}
 use Rattle.seal_log.specs.Journal.{StandsFor}
 use Rattle.withdraw.specs.declared.undone.UndoneBehind.{UndoneBehind}
 use Rattle.box_store.specs.Making.{makes_store}
-use Rattle.store_kept.specs.Kept.{Kept, new_desk, passed, performed, snapshotted, store_of, undone_of, upgraded}
+use Rattle.store_kept.specs.Kept.{Kept, passed, performed, snapshotted, store_of, undone_of, upgraded}
 use Rattle.repair_desk.specs.Repairs.{are_known, position}
 use Rattle.cycle_rules.specs.Asking.{Due, Repeats, NoPoint, NoNumbers, Rewinds, after_cycle, cycle_due}
 use Rattle.cycle_rules.specs.Cycles.{Cycled}
 use Rattle.cycle_rules.specs.Withdrawals.{after_withdrawal, withdraw_due}
-use Rattle.house_text.specs.Beginning.{can_begin}
 use Rattle.desk_journal.specs.Sameness.{is_same}
+pub use Rattle.desk_journal.specs.Formed.{agree, is_formed, is_spelled}
+pub use Rattle.desk_journal.specs.Founding.{behind, first_fore, format_of, front, goes_on, is_behind, opening_state, settled}
 
 -- ---- what a record says
-
--- the house and the configuration at first, of a Format
-abbrev pub format_of : JournalRecord → Option (House × Conf)
-format_of (Format house conf) = Some (house, conf)
-format_of _ = None
 
 -- the request of a cycle
 abbrev pub cycle_in : JournalRecord → Option CycleAsk
@@ -72,25 +63,9 @@ place_rewound_to kept _ = None
 
 -- ---- one record
 
--- whether two answers are the same
-abbrev pub agree : Bool → Bool → Bool
-agree true b = b
-agree false b = not b
-
--- whether an item is such as can be recorded: somebody acts exactly where the deed is a user's own, its users are known,
--- its keys are few, and what was shown has the form of the deed
-abbrev pub is_formed : House → Item → Bool
-is_formed house i =
-    agree (is_some i.by) (is_own i.deed) && list_all (is_known house) (cons_option i.by (users_in i.deed))
-    && nat_le (length (keys_in i.deed)) 65536 && has_form i.deed i.shown
-
 -- whether an item can follow: it has the next number, there is one left, and it can be recorded
 abbrev pub can_follow : Kept → Item → Bool
 can_follow kept i = (i.number == kept.next) && nat_lt kept.next 4194304 && is_formed kept.house i
-
--- whether a record has a spelling
-abbrev pub is_spelled : JournalRecord → Bool
-is_spelled what = are_in_range (record_fields what)
 
 -- what is kept after the item of a record, where it can stand
 abbrev pub after_item : Kept → JournalRecord → Item → Option Kept
@@ -178,32 +153,15 @@ all_true kept (r ∷ rs) = is_true kept r && option_map_or (λ next. all_true ne
 
 -- ---- a journal: its front, and the records behind it
 
--- what a journal's first record leaves: it is a Format
+-- what a journal's first record leaves, where no other goes on with it: it is a Format
 abbrev pub first_state : JournalRecord → Option Kept
-first_state what =
-    option_and_then (λ (parts : House × Conf). if is_spelled what && can_begin parts.0 parts.1 then Some (new_desk parts.0 parts.1) else None) (format_of what)
-
--- the records that a journal opens with, which are judged as one: its first
-abbrev pub front : List JournalRecord → List JournalRecord
-front [] = []
-front (r ∷ rs) = r ∷ []
-
--- those behind them, each of which is judged by what the ones before it left
-abbrev pub behind : List JournalRecord → List JournalRecord
-behind [] = []
-behind (r ∷ rs) = rs
-
--- what the records of a front leave, where they can stand
-abbrev pub opening_state : List JournalRecord → Option Kept
-opening_state [] = None
-opening_state (r ∷ []) = first_state r
-opening_state (r ∷ q ∷ rs) = None
+first_state what = option_and_then settled (first_fore what)
 
 -- what a journal's records leave, where each of them can stand
 abbrev pub state : List JournalRecord → Option Kept
 state records = option_and_then (λ kept. after_records kept (behind records)) (opening_state (front records))
 
--- A journal is true where each record behind its front is true of what is kept before it: each item shows the step's answer,
+-- A journal is true where each record behind its front, whose records are taken as given, is true of what is kept before it: each item shows the step's answer,
 -- and each snapshot holds the store.
 abbrev pub are_true : List JournalRecord → Bool
 are_true records = option_map_or (λ kept. all_true kept (behind records)) (opening_state (front records)) true

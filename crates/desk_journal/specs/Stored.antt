@@ -1,6 +1,7 @@
 -- Where the texts of what is kept lie in the journal.
-use Rattle.std.specs.Prelude.{◌≡◌, ◌≤◌, ◌+◌, ◌==◌, ◌&&◌, ℕ, Bool, false, List, length, take, find, [], Option, Some, None, is_some, option_and_then, if◌then◌else◌}
+use Rattle.std.specs.Prelude.{◌≡◌, ◌≤◌, ◌+◌, ◌==◌, ◌&&◌, ℕ, Bool, false, List, length, take, find, [], Option, Some, None, is_some, if◌then◌else◌}
 use Rattle.std.specs.List.{AllByRecursion}
+use Rattle.std.specs.Option.{option_map_or}
 use Rattle.undo_outside.specs.Disk.{DiskTold}
 use Rattle.verb_core.specs.Items.{text_in}
 use Rattle.verb_core.specs.declared.item.Item.{Item}
@@ -22,22 +23,27 @@ use Rattle.mail_desk.specs.Noting.{renoted}
 use Rattle.mail_desk.specs.declared.noting.Fresh.{Fresh}
 use Rattle.mail_desk.specs.Timeline.{body_of}
 use Rattle.store_kept.specs.Coming.{HasUndoneTexts}
-use Rattle.store_kept.specs.Kept.{IsRun, Kept}
-use Rattle.store_kept.specs.Texts.{is_in_memory, items_asked}
+use Rattle.store_kept.specs.Kept.{BaseTexts, IsRun, Kept}
+use Rattle.store_kept.specs.Texts.{is_in_memory, items_asked, text_before}
 use Rattle.desk_journal.specs.Lasting.{Lasting}
 use Rattle.desk_journal.specs.Permanence.{RevsBelow}
 
--- the text that an item has in a record: none where it is in memory
-abbrev pub recorded_in : Item → Option (List ℕ)
-recorded_in i = if is_in_memory i then None else text_in i.deed
+-- the text that an item has in a record, where this journal draws numbers from a first one on: none where it is in memory
+abbrev pub recorded_in : ℕ → Item → Option (List ℕ)
+recorded_in first i = if is_in_memory first i then None else text_in i.deed
 
 -- the item among these that brings the text of a body: the first of its number and rev that has one
 abbrev pub item_with : List Item → Body → Option Item
 item_with t body = find (λ (i : Item). (i.number == body.origin) && (i.rev == body.rev) && is_some (text_in i.deed)) t
 
--- whether a record has the text of a body that one of these items brings: there is one, and it is not in memory
-abbrev pub is_recorded : List Item → Body → Bool
-is_recorded t body = is_some (option_and_then recorded_in (item_with t body))
+-- the text of a body that a record has: that of the one of these items that brings it, where it is not in memory, or else that of
+-- the base
+abbrev pub recorded_of : Kept → List Item → Body → Option (List ℕ)
+recorded_of kept t body = option_map_or (recorded_in kept.first) (item_with t body) (text_before kept.texts body)
+
+-- whether a record has one
+abbrev pub is_recorded : Kept → List Item → Body → Bool
+is_recorded kept t body = is_some (recorded_of kept t body)
 
 -- ---- one text
 
@@ -55,24 +61,33 @@ pub record IsStored (payloads : List (List ℕ)) (note : Note) (text : List ℕ)
 -- ---- the texts of a timeline
 
 -- the text that an item has in a record is noted, and so
-abbrev pub HasNote : (Note → List ℕ → Type 0) → List (Body × Note) → Item → Type 0
-HasNote P notes i = (text : List ℕ) → recorded_in i ≡ Some text → (note : Note) × (note_of notes (body_of i) ≡ Some note) × P note text
+abbrev pub HasNote : ℕ → (Note → List ℕ → Type 0) → List (Body × Note) → Item → Type 0
+HasNote first P notes i = (text : List ℕ) → recorded_in first i ≡ Some text → (note : Note) × (note_of notes (body_of i) ≡ Some note) × P note text
 
 -- each is noted as lying before a gate
-abbrev pub NotedBefore : ℕ → List (Body × Note) → List Item → Type 0
-NotedBefore gate notes timeline = AllByRecursion (HasNote (IsBefore gate) notes) timeline
+abbrev pub NotedBefore : ℕ → ℕ → List (Body × Note) → List Item → Type 0
+NotedBefore first gate notes timeline = AllByRecursion (HasNote first (IsBefore gate) notes) timeline
 
 -- each lies where it is noted, in a journal of these payloads
-abbrev pub TextsLie : List (List ℕ) → List (Body × Note) → List Item → Type 0
-TextsLie payloads notes timeline = AllByRecursion (HasNote (IsStored payloads) notes) timeline
+abbrev pub TextsLie : ℕ → List (List ℕ) → List (Body × Note) → List Item → Type 0
+TextsLie first payloads notes timeline = AllByRecursion (HasNote first (IsStored payloads) notes) timeline
 
 -- ---- the texts of what is kept, as long as they may be asked for
 
+-- a text that comes with the base is noted, and so
+abbrev pub BaseHasNote : (Note → List ℕ → Type 0) → List (Body × Note) → Body × List ℕ → Type 0
+BaseHasNote P notes r = (note : Note) × (note_of notes r.0 ≡ Some note) × P note r.1
+
+-- each text that a record has is noted, and so: those of the items that may be asked for, and those that come with the base
+pub record AllNoted (first : ℕ) (P : Note → List ℕ → Type 0) (notes : List (Body × Note)) (texts : BaseTexts) (asked : List Item) : Type 0 where
+  pub items : AllByRecursion (HasNote first P notes) asked
+  pub base : AllByRecursion (BaseHasNote P notes) texts
+
 abbrev pub TextsNoted : ℕ → List (Body × Note) → Kept → Type 0
-TextsNoted gate notes kept = NotedBefore gate notes (items_asked kept)
+TextsNoted gate notes kept = AllNoted kept.first (IsBefore gate) notes kept.texts (items_asked kept)
 
 abbrev pub TextsStored : List (List ℕ) → List (Body × Note) → Kept → Type 0
-TextsStored payloads notes kept = TextsLie payloads notes (items_asked kept)
+TextsStored payloads notes kept = AllNoted kept.first (IsStored payloads) notes kept.texts (items_asked kept)
 
 -- ---- the snapshots
 
@@ -133,19 +148,21 @@ pub record IsFresh (c at : ℕ) (ask : CycleAsk) (place : Place) (bytes : List �
   pub place_is : fresh.place ≡ place
   pub replaced : (number : ℕ) (text : List ℕ) → text_asked ask.replaces number ≡ Some text
       → (note : Note) × (note_of fresh.shelf.notes (record { origin = number; rev = c }) ≡ Some note) × LiesIn place bytes note text
-  pub given : AllByRecursion (HasNote (LiesIn place bytes) fresh.shelf.notes) (inserted c at ask.inserts)
+  pub given : AllByRecursion (HasNote c (LiesIn place bytes) fresh.shelf.notes) (inserted c at ask.inserts)
 
--- each text of the timeline lies where it lay before the cycle, or in the cycle's own record, or is a notice's
-abbrev pub Renotes : List (Body × Note) → Fresh → List Item → List (Body × Note) → Type 0
-Renotes old fresh timeline new = (body : Body) → note_of new body ≡ renoted old fresh timeline body
+-- each text of the timeline, and each that comes with the base, lies where it lay before the cycle, or in the cycle's own record, or is
+-- a notice's
+abbrev pub Renotes : List (Body × Note) → Fresh → BaseTexts → List Item → List (Body × Note) → Type 0
+Renotes old fresh texts timeline new = (body : Body) → note_of new body ≡ renoted old fresh texts timeline body
 
 -- the same where the record at a place brings none
-abbrev pub NotesNone : Place → List (Body × Note) → List Item → List (Body × Note) → Type 0
-NotesNone place old timeline new = (fresh : Fresh) × (fresh.place ≡ place) × (fresh.shelf.notes ≡ []) × Renotes old fresh timeline new
+abbrev pub NotesNone : Place → List (Body × Note) → BaseTexts → List Item → List (Body × Note) → Type 0
+NotesNone place old texts timeline new = (fresh : Fresh) × (fresh.place ≡ place) × (fresh.shelf.notes ≡ []) × Renotes old fresh texts timeline new
 
 -- the same of the cycle c at a moment, where its record lies at a place
-abbrev pub NotesCycle : ℕ → ℕ → CycleAsk → Place → List (Body × Note) → List Item → List (Body × Note) → Type 0
-NotesCycle c at ask place old timeline new = (fresh : Fresh) × IsFresh c at ask place (record_bytes (Cycle c at ask)) fresh × Renotes old fresh timeline new
+abbrev pub NotesCycle : ℕ → ℕ → CycleAsk → Place → List (Body × Note) → BaseTexts → List Item → List (Body × Note) → Type 0
+NotesCycle c at ask place old texts timeline new =
+    (fresh : Fresh) × IsFresh c at ask place (record_bytes (Cycle c at ask)) fresh × Renotes old fresh texts timeline new
 
 -- ---- the disk
 

@@ -1,5 +1,5 @@
 -- Which texts a desk tells while its journal is read, and what a read leaves.
-use Rattle.std.specs.Prelude.{◌≡◌, ℕ, ◌+◌, ◌<◌, ◌==◌, Bool, false, nat_le, ◌&&◌, ◌||◌, is_some, List, Option, None, if◌then◌else◌}
+use Rattle.std.specs.Prelude.{◌≡◌, ℕ, ◌+◌, ◌<◌, ◌==◌, Bool, false, nat_le, ◌&&◌, ◌||◌, is_some, List, [], ◌∷◌, Option, None, unwrap_or, if◌then◌else◌}
 use Rattle.std.specs.Option.{option_map_or, option_or}
 use Rattle.undo_outside.specs.Disk.{DiskTold, ReadFailed}
 use Rattle.seal_log.specs.Settled.{ReadsAlone}
@@ -12,7 +12,8 @@ use Rattle.mail_desk.specs.Held.{Held}
 use Rattle.desk_journal.specs.declared.read_texts.Reading.{Reading}
 use Rattle.desk_journal.specs.Lasting.{JournalTold, PastTold}
 use Rattle.desk_journal.specs.Stored.{TextsHeld, is_recorded}
-use Rattle.store_kept.specs.Texts.{items_asked, text_at_hand}
+use Rattle.store_kept.specs.Kept.{Kept}
+use Rattle.store_kept.specs.Texts.{items_asked, text_at_hand, text_kept}
 
 -- the text that a request asks for a body, of two the last: its cycle's number is the body's rev
 abbrev pub asked_of : ℕ → List (ℕ × List ℕ) → Body → Option (List ℕ)
@@ -22,18 +23,26 @@ asked_of c replaces body = if body.rev == c then text_asked replaces body.origin
 abbrev pub is_readable : ℕ → Note → Bool
 is_readable gate note = nat_le (note.place.gate + 5 + note.place.length) gate && nat_le (note.from + note.length) note.place.length
 
--- where the text of a body lies that one of the items brings whose texts may be asked for, where a record has it
+-- where the text of a body lies that one of the items brings whose texts may be asked for, or that comes with the base, where a record
+-- has it
 abbrev pub noted_in : Held → Body → Option Note
-noted_in held body = if is_recorded (items_asked held.kept) body then note_of held.notes body else None
+noted_in held body = if is_recorded held.kept (items_asked held.kept) body then note_of held.notes body else None
 
 -- whether a body's text is asked for by the request, or can be read
 abbrev pub is_told : Held → ℕ → ℕ → List (ℕ × List ℕ) → Body → Bool
 is_told held gate c replaces body =
     is_some (asked_of c replaces body) || option_map_or (is_readable gate) (noted_in held body) false
 
--- the text that the request asks for, or else that of the items in force, or of those that can come back
+-- the text that the request asks for, or else that of the items in force, or of those that can come back, or that of the base
 abbrev pub text_told : Held → ℕ → List (ℕ × List ℕ) → Body → Option (List ℕ)
 text_told held c replaces body = option_or (asked_of c replaces body) (text_at_hand held.kept body)
+
+-- Texts that come of bodies: any where a record has one, and else, where it is in memory, the one that is kept.
+abbrev pub with_memory : Kept → List Body → List (List ℕ) → List (List ℕ)
+with_memory kept [] texts = []
+with_memory kept (body ∷ bodies) [] = []
+with_memory kept (body ∷ bodies) (text ∷ texts) =
+    (if is_recorded kept kept.timeline body then text else unwrap_or (text_kept kept body) []) ∷ with_memory kept bodies texts
 
 -- the disk holds the texts of what is kept in memory
 abbrev pub HoldsHeld : DiskTold → Held → Type 0

@@ -1,5 +1,5 @@
 //! What the definitions of sealing imply. These functions do nothing: their contracts are laws of the definitions.
-ghost use Rattle.std.specs.Prelude.{◌≡◌, ◌⊎◌, ◌↔◌, ℕ, List, [], ◌∷◌, ◌++◌, take, Some, IsTrue};
+ghost use Rattle.std.specs.Prelude.{◌≡◌, ◌⊎◌, ◌↔◌, ℕ, List, [], ◌∷◌, ◌++◌, take, None, Some, IsTrue};
 ghost use Rattle.undo_outside.specs.Disk.{ReadFailed};
 ghost use Rattle.seal_log.specs.Journal.{StandsForFront};
 ghost use Rattle.verb_core.specs.declared.conf.Conf.{Conf};
@@ -9,8 +9,9 @@ ghost use Rattle.verb_bytes.specs.declared.journal.JournalRecord.TheVariants.{Fo
 ghost use Rattle.store_kept.specs.Kept.{Kept};
 ghost use Rattle.desk_journal.specs.Crashing.{LeavesFront};
 ghost use Rattle.desk_journal.specs.Lasting.{Lasting, IsUnwritten};
+ghost use Rattle.desk_journal.specs.Permanence.{IsSound, RevsBelow};
 ghost use Rattle.desk_journal.specs.Reading.{HaveRead, IsStill, Reads, ReadsWell, both_read, failed_once, none_read, wrong_once};
-ghost use Rattle.desk_journal.specs.Records.{are_true, is_true, payloads_of, state, true_record};
+ghost use Rattle.desk_journal.specs.Records.{are_true, is_true, opening_state, payloads_of, state, true_record};
 ghost use Rattle.desk_journal.specs.Sealing.{ReadNoTexts, Seals};
 ghost use Rattle.desk_journal.specs.Stored.{HoldsTexts};
 
@@ -54,4 +55,12 @@ pub fn records_stay_true<D: Disk>()
     ensures crashed { (records added failed : List JournalRecord) (old new : Lasting D) (count : ℕ) → state records ≡ Some old.kept
         → HoldsTexts D.told old ⊎ ReadNoTexts added → Seals D.told added failed old new → IsTrue (are_true records)
         → IsTrue (are_true (records ++ take count (added ++ failed))) }
+{}
+
+/// What a journal opens with, be it a Format alone or with a base, its texts and kept items, leaves what is sound, with each text of a rev
+/// below the next number; nothing of it can come back, and no snapshot was taken.
+pub fn fronts_are_sound()
+    ensures sound { (records : List JournalRecord) (kept : Kept) → opening_state records ≡ Some kept → IsSound kept }
+    ensures revs { (records : List JournalRecord) (kept : Kept) → opening_state records ≡ Some kept → RevsBelow kept }
+    ensures first { (records : List JournalRecord) (kept : Kept) → opening_state records ≡ Some kept → (kept.undone ≡ None) × (kept.marks.places ≡ []) }
 {}

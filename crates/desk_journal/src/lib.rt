@@ -2,9 +2,10 @@
 //!
 //! `on_disk` has the journal on a disk, `past` what lies before a gate of it, `seal` seals the record of an item, and `spelling` makes the bytes of each. `make` begins a
 //! journal; `submit`, `act`, `snapshot` and `upgrade` do what users and the operator ask of a desk in memory and its open journal; `texts`
-//! reads the texts of bodies, `read_texts` is the texts of a desk for whoever performs its items once more, with those that a
+//! reads the texts of bodies, `bases` says when a base can stand, `read_texts` is the texts of a desk for whoever performs its items once more, with those that a
 //! request brings (`new_texts`), and `fresh` says where those lie that a cycle brings. `fault` says why a desk is not made and an act not done, and `laws` what holds of runs of
-//! calls. In specs/, `Records` says what records leave one after the other and when one can stand, `Lasting` what contracts see
+//! calls. In specs/, `Founding` says what a journal opens with, `Records` what
+//! records leave one after the other and when one can stand, `Lasting` what contracts see
 //! of a desk over a disk, `Stored` where its texts lie, `Sealing` what a call seals and what a crash at any moment of it leaves,
 //! `Making` and `Submitting` why calls are refused, `Reading` and `Telling` what a read leaves, and `Permanence` what holds of all
 //! that is kept.
@@ -13,6 +14,7 @@
 #![tactic(auto)]
 
 mod act;
+mod bases;
 mod fault;
 mod fresh;
 pub mod laws;
@@ -29,6 +31,7 @@ mod texts;
 mod upgrade;
 
 pub use act::{act_open, item_of};
+pub use bases::can_found;
 pub use fault::{ActFault, MakeFault};
 pub use fresh::{fresh_of, no_fresh};
 pub use make::make_parts;
@@ -38,6 +41,6 @@ pub use past::Past;
 pub use read_texts::Reading;
 pub use seal::seal_bytes;
 pub use snapshot::snapshot_open;
-pub use spelling::{cycle_bytes, withdraw_bytes};
+pub use spelling::{cycle_bytes, house_bytes, withdraw_bytes};
 pub use submit::submit_open;
 pub use upgrade::upgrade_open;

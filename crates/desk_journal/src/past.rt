@@ -1,9 +1,10 @@
 //! What lies on a disk before a gate of its journal.
-ghost use Rattle.std.specs.Prelude.{◌≡◌, ◌<◌, ◌≤◌, ◌+◌, ℕ, List, [], ◌∷◌, true, false, length, slice_range, IfOk, OnOk, OnErr, IsErrOf};
+ghost use Rattle.std.specs.Prelude.{◌≡◌, ◌<◌, ◌≤◌, ◌+◌, ◌^◌, ℕ, List, [], ◌∷◌, Some, true, false, length, slice_range, IfOk, IfSome, OnOk, OnErr, IsErrOf};
+ghost use Rattle.std.specs.Int.{to_be_bytes, w32};
 ghost use Rattle.seal_log.specs.Causes.{ReadAtCause, SealWants};
 ghost use Rattle.seal_log.specs.Journal.{LiesAt};
 ghost use Rattle.seal_log.specs.Log.{last_gate};
-ghost use Rattle.seal_log.specs.Settled.{Holds, IsSettled};
+ghost use Rattle.seal_log.specs.Settled.{Holds, IsSettled, ReadsAlone};
 ghost use Rattle.desk_journal.specs.Sealing.{SealsPayloads};
 ghost use Rattle.desk_journal.specs.Telling.{IsPastRead};
 
@@ -62,6 +63,42 @@ fn seal_payload<D: Disk>(
     }
 }
 
+/// The number in the four bytes from a place on.
+fn length_at<D: Disk>(disk: &mut D, place: u64) -> Result<u32, ReadFault>
+    requires { place + 4 ≤ (D.told disk.old).size }
+    ensures number { (D.told disk.old).honest → IfOk result (λ number. slice_range (D.told disk.old).content place (place + 4) ≡ to_be_bytes w32 number) }
+    ensures fits { IfOk result (λ number. number < 2 ^ 32) }
+    ensures reads { ReadsAlone (D.told disk.old) (D.told disk.new) }
+    ensures cause { ReadAtCause (D.told disk.old) (D.told disk.new) result }
+{
+    let mut bytes = [0; 4];
+    match disk.read(place, &mut bytes) {
+        Ok(()) => Ok(number_of(&bytes)),
+        Err(_) => Err(ReadFault::Disk),
+    }
+}
+
+/// The number that four bytes spell.
+fn number_of(bytes: &[u8]) -> u32
+    requires { length bytes.now ≡ 4 }
+    ensures { bytes.now ≡ to_be_bytes w32 result }
+{
+    u32::from_be_bytes([bytes[0], bytes[1], bytes[2], bytes[3]])
+}
+
+/// The place of so many bytes behind a gate, where all of it lies before an end.
+fn place_before(end: u64, gate: u64, length: u32) -> Option<Place>
+    requires { gate + 5 ≤ end }
+    ensures there { gate + 5 + length ≤ end → result ≡ Some (record { gate = gate; length = length }) }
+    ensures within { IfSome result (λ place. (place.gate ≡ gate) × (place.gate + 5 + place.length ≤ end)) }
+{
+    if u64::from(length) <= end - gate - 5 {
+        Some(Place { gate, length })
+    } else {
+        None
+    }
+}
+
 impl<D: Disk> Past<D> {
     /// What lies on a disk before a gate.
     pub fn at(disk: D, end: u64) -> Past<D>
@@ -104,6 +141,22 @@ impl<D: Disk> Past<D> {
         ensures still { IsPastRead D.told self.old self.new }
     {
         read_before(alloc, &mut self.disk, self.end, place, from, length)
+    }
+
+    /// The place of the payload behind a gate before the end, by the length in the four bytes there; none where it would go past the
+    /// end.
+    pub fn place_at(&mut self, gate: u64) -> Result<Option<Place>, ReadFault>
+        requires { gate + 5 ≤ self.old.end }
+        ensures place { (payloads : List (List ℕ)) (count : ℕ) (payload : List ℕ) → Holds (D.told self.old.disk) payloads → LiesAt payloads gate count payload
+            → count < 2 ^ 32 → gate + 5 + count ≤ self.old.end → IfOk result (λ found. found ≡ Some (record { gate = gate; length = count })) }
+        ensures within { IfOk result (λ found. IfSome found (λ place. (place.gate ≡ gate) × (place.gate + 5 + place.length ≤ self.old.end))) }
+        ensures cause { ReadAtCause (D.told self.old.disk) (D.told self.new.disk) result }
+        ensures still { IsPastRead D.told self.old self.new }
+    {
+        match length_at(&mut self.disk, gate + 1) {
+            Ok(length) => Ok(place_before(self.end, gate, length)),
+            Err(fault) => Err(fault),
+        }
     }
 
     /// Seals a payload behind the gate, with the journal's log, and goes on to the next gate.

@@ -1,9 +1,10 @@
-//! The texts of bodies: a notice's is in memory, and any other is read where it lies in the journal.
-ghost use Rattle.std.specs.Prelude.{◌≡◌, ◌+◌, ◌++◌, ◌∷◌, [], false, length, is_some, Some, IsTrue, IfOk, OnOk, IsErrOf};
+//! The texts of bodies: that of a notice which a cycle or a withdrawal of this journal made is in memory, and any other is read where it
+//! lies in the journal.
+ghost use Rattle.std.specs.Prelude.{◌≡◌, ℕ, ◌+◌, List, ◌++◌, ◌∷◌, [], false, length, is_some, Some, IsTrue, IfOk, OnOk, IsErrOf};
 ghost use Rattle.std.specs.List.{list_all, list_any};
 ghost use Rattle.seal_log.specs.Causes.{ReadAtCause};
 ghost use Rattle.desk_journal.specs.Stored.{TextsNoted, is_recorded};
-ghost use Rattle.desk_journal.specs.Telling.{HoldsHeld, IsOnlyRead, IsPastRead};
+ghost use Rattle.desk_journal.specs.Telling.{HoldsHeld, IsOnlyRead, IsPastRead, with_memory};
 ghost use Rattle.store_kept.specs.Texts.{has_text_kept, text_kept, texts_kept};
 
 use crate::on_disk::Journal;
@@ -36,10 +37,11 @@ fn text_at<D: Disk>(
     requires noted { TextsNoted past.old.end desk.now.notes desk.now.kept }
     requires there { IsTrue (has_text_kept desk.now.kept body) }
     ensures text { HoldsHeld (D.told past.old.disk) desk.now → IfOk result (λ text. text_kept desk.now.kept body ≡ Some text) }
+    ensures memory { is_recorded desk.now.kept desk.now.kept.timeline body ≡ false → IfOk result (λ text. text_kept desk.now.kept body ≡ Some text) }
     ensures cause { ReadAtCause (D.told past.old.disk) (D.told past.new.disk) result }
     ensures still { IsPastRead D.told past.old past.new }
-    ensures due { IsErrOf result ReadFault.Disk → IsTrue (is_recorded desk.now.kept.timeline body) }
-    ensures alone { is_recorded desk.now.kept.timeline body ≡ false → past.new ≡ past.old }
+    ensures due { IsErrOf result ReadFault.Disk → IsTrue (is_recorded desk.now.kept desk.now.kept.timeline body) }
+    ensures alone { is_recorded desk.now.kept desk.now.kept.timeline body ≡ false → past.new ≡ past.old }
 {
     desk.stands();
     match desk.notice(body) {
@@ -58,10 +60,11 @@ fn found_at<D: Disk>(
     requires noted { TextsNoted past.old.end desk.now.notes desk.now.kept }
     ensures there { IfOk result (λ found. is_some found ≡ has_text_kept desk.now.kept body) }
     ensures found { HoldsHeld (D.told past.old.disk) desk.now → IfOk result (λ found. found ≡ text_kept desk.now.kept body) }
+    ensures memory { is_recorded desk.now.kept desk.now.kept.timeline body ≡ false → IfOk result (λ found. found ≡ text_kept desk.now.kept body) }
     ensures cause { ReadAtCause (D.told past.old.disk) (D.told past.new.disk) result }
     ensures still { IsPastRead D.told past.old past.new }
-    ensures due { IsErrOf result ReadFault.Disk → IsTrue (is_recorded desk.now.kept.timeline body) }
-    ensures alone { is_recorded desk.now.kept.timeline body ≡ false → past.new ≡ past.old }
+    ensures due { IsErrOf result ReadFault.Disk → IsTrue (is_recorded desk.now.kept desk.now.kept.timeline body) }
+    ensures alone { is_recorded desk.now.kept desk.now.kept.timeline body ≡ false → past.new ≡ past.old }
 {
     if !desk.has_text(body) {
         return Ok(None);
@@ -84,10 +87,12 @@ fn push_at<D: Disk>(
     requires there { IsTrue (has_text_kept desk.now.kept body) }
     ensures count { OnOk result (length texts.new ≡ length texts.old + 1) }
     ensures texts { HoldsHeld (D.told past.old.disk) desk.now → OnOk result (texts.new ≡ texts.old ++ texts_kept desk.now.kept (body ∷ [])) }
+    ensures memory { OnOk result ((text : List ℕ) × (texts.new ≡ texts.old ++ text ∷ [])
+        × (is_recorded desk.now.kept desk.now.kept.timeline body ≡ false → text_kept desk.now.kept body ≡ Some text)) }
     ensures cause { ReadAtCause (D.told past.old.disk) (D.told past.new.disk) result }
     ensures still { IsPastRead D.told past.old past.new }
-    ensures due { IsErrOf result ReadFault.Disk → IsTrue (is_recorded desk.now.kept.timeline body) }
-    ensures alone { is_recorded desk.now.kept.timeline body ≡ false → past.new ≡ past.old }
+    ensures due { IsErrOf result ReadFault.Disk → IsTrue (is_recorded desk.now.kept desk.now.kept.timeline body) }
+    ensures alone { is_recorded desk.now.kept desk.now.kept.timeline body ≡ false → past.new ≡ past.old }
 {
     let text = text_at(alloc, past, desk, body)?;
     match texts.push(text) {
@@ -107,10 +112,11 @@ fn texts_at<D: Disk>(
     requires there { IsTrue (list_all (has_text_kept desk.now.kept) bodies.now) }
     ensures count { IfOk result (λ texts. length texts ≡ length bodies.now) }
     ensures texts { HoldsHeld (D.told past.old.disk) desk.now → IfOk result (λ texts. texts ≡ texts_kept desk.now.kept bodies.now) }
+    ensures memory { IfOk result (λ texts. with_memory desk.now.kept bodies.now texts ≡ texts) }
     ensures cause { ReadAtCause (D.told past.old.disk) (D.told past.new.disk) result }
     ensures still { IsPastRead D.told past.old past.new }
-    ensures due { IsErrOf result ReadFault.Disk → IsTrue (list_any (is_recorded desk.now.kept.timeline) bodies.now) }
-    ensures alone { list_any (is_recorded desk.now.kept.timeline) bodies.now ≡ false → past.new ≡ past.old }
+    ensures due { IsErrOf result ReadFault.Disk → IsTrue (list_any (is_recorded desk.now.kept desk.now.kept.timeline) bodies.now) }
+    ensures alone { list_any (is_recorded desk.now.kept desk.now.kept.timeline) bodies.now ≡ false → past.new ≡ past.old }
 {
     let mut texts = Texts::new(alloc);
     for body in bodies {
@@ -130,10 +136,11 @@ impl<D: Disk> Journal<D> {
         requires { TextsNoted self.old.gate desk.now.notes desk.now.kept }
         ensures there { IfOk result (λ found. is_some found ≡ has_text_kept desk.now.kept body) }
         ensures found { HoldsHeld (D.told self.old.disk) desk.now → IfOk result (λ found. found ≡ text_kept desk.now.kept body) }
+        ensures memory { is_recorded desk.now.kept desk.now.kept.timeline body ≡ false → IfOk result (λ found. found ≡ text_kept desk.now.kept body) }
         ensures cause { ReadAtCause (D.told self.old.disk) (D.told self.new.disk) result }
         ensures still { IsOnlyRead D.told self.old self.new }
-        ensures due { IsErrOf result ReadFault.Disk → IsTrue (is_recorded desk.now.kept.timeline body) }
-        ensures alone { is_recorded desk.now.kept.timeline body ≡ false → self.new ≡ self.old }
+        ensures due { IsErrOf result ReadFault.Disk → IsTrue (is_recorded desk.now.kept desk.now.kept.timeline body) }
+        ensures alone { is_recorded desk.now.kept desk.now.kept.timeline body ≡ false → self.new ≡ self.old }
     {
         found_at(alloc, &mut self.past, desk, body)
     }
@@ -149,10 +156,11 @@ impl<D: Disk> Journal<D> {
         requires there { IsTrue (list_all (has_text_kept desk.now.kept) bodies.now) }
         ensures count { IfOk result (λ texts. length texts ≡ length bodies.now) }
         ensures texts { HoldsHeld (D.told self.old.disk) desk.now → IfOk result (λ texts. texts ≡ texts_kept desk.now.kept bodies.now) }
+        ensures memory { IfOk result (λ texts. with_memory desk.now.kept bodies.now texts ≡ texts) }
         ensures cause { ReadAtCause (D.told self.old.disk) (D.told self.new.disk) result }
         ensures still { IsOnlyRead D.told self.old self.new }
-        ensures due { IsErrOf result ReadFault.Disk → IsTrue (list_any (is_recorded desk.now.kept.timeline) bodies.now) }
-        ensures alone { list_any (is_recorded desk.now.kept.timeline) bodies.now ≡ false → self.new ≡ self.old }
+        ensures due { IsErrOf result ReadFault.Disk → IsTrue (list_any (is_recorded desk.now.kept desk.now.kept.timeline) bodies.now) }
+        ensures alone { list_any (is_recorded desk.now.kept desk.now.kept.timeline) bodies.now ≡ false → self.new ≡ self.old }
     {
         texts_at(alloc, &mut self.past, desk, bodies)
     }

@@ -2,6 +2,7 @@
 use Rattle.std.proofs.Common.{◌≡◌, ◌≢◌, ℕ, zero, suc, ◌==◌, Bool, true, false, ◌&&◌, cond, List, [], ◌∷◌, ◌++◌, drop, length, map, find, Option, None, Some, is_some, option_map, option_and_then, refl, ap, sym, ◌∙◌, arith}
 use Rattle.std.specs.List.{AllByRecursion}
 use Rattle.std.specs.Cmp.{second_so}
+use Rattle.std.specs.Option.{option_or}
 use Rattle.std.proofs.lemmas.Bool.Decides.{nat_tests}
 use Rattle.verb_core.specs.declared.item.Item.{Item}
 use Rattle.verb_core.specs.declared.mailbox.Body.{Body}
@@ -13,8 +14,10 @@ use Rattle.shelf.specs.declared.note.Note.{Note}
 use Rattle.shelf.specs.Notes.{note_of, same_body, size_of}
 use Rattle.stored_items.specs.Stored.{stored}
 use Rattle.stored_items.proofs.Whole.{notice_kept}
+use Rattle.store_kept.specs.Kept.{BaseTexts}
+use Rattle.store_kept.specs.Texts.{has_text_with, is_in_memory, text_before, text_with}
 use Rattle.mail_desk.specs.Noting.{IsNotedIn}
-use Rattle.mail_desk.specs.Timeline.{item_of, body_of, has_text, notice_text_of, notice_told_by, told_by, unshown, NotesText, SizesOf}
+use Rattle.mail_desk.specs.Timeline.{item_of, body_of, has_text, memory_told_by, text_in_memory, told_by, unshown, NotesText, SizesOf}
 use Rattle.mail_desk.proofs.Timelines.{all_weaker, unequal}
 
 -- whether an item brought the text of a body
@@ -49,17 +52,17 @@ text_by_item (i ∷ t) apart body =
       | false ↦ λ e. text_by_item t apart.1 body
     ] refl
 
--- a notice's text is told
+-- a text in memory is told
 told_so : (b : Bool) (o : Option (List ℕ)) (text : List ℕ) → cond b o None ≡ Some text → o ≡ Some text
 told_so true o text e = e
 told_so false o text e = absurd (let wrong : ◌≡◌ {A = Option (List ℕ)} None (Some text) = e in cc)
 
-pub notice_told : (t : List Item) → NumbersApart t → (body : Body) (text : List ℕ) → notice_text_of t body ≡ Some text → text_of t body ≡ Some text
-notice_told t apart body text e = text_by_item t apart body ∙ from (item_of t body.origin) e
+pub memory_told : (first : ℕ) (t : List Item) → NumbersApart t → (body : Body) (text : List ℕ) → text_in_memory first t body ≡ Some text → text_of t body ≡ Some text
+memory_told first t apart body text e = text_by_item t apart body ∙ from (item_of t body.origin) e
   where
-    from : (o : Option Item) → option_and_then (notice_told_by body) o ≡ Some text → option_and_then (told_by body) o ≡ Some text
+    from : (o : Option Item) → option_and_then (memory_told_by first body) o ≡ Some text → option_and_then (told_by body) o ≡ Some text
     from None e = e
-    from (Some i) e = told_so (is_notice i.deed) (told_by body i) text e
+    from (Some i) e = told_so (is_in_memory first i) (told_by body i) text e
 
 -- it is what is kept of the item
 pub told_as_kept : (i : Item) (body : Body) → is_notice i.deed ≡ true → told_by body (stored i) ≡ told_by body i
@@ -130,12 +133,12 @@ some_either true o rest more has later = has
 some_either false o rest more has later = later has
 
 -- items behind leave it there
-pub text_before : (front t : List Item) (body : Body) → has_text front body ≡ true → has_text (front ++ t) body ≡ true
-text_before [] t body has = absurd (let wrong : false ≡ true = has in cc)
-text_before (j ∷ front) t body has =
+pub text_ahead : (front t : List Item) (body : Body) → has_text front body ≡ true → has_text (front ++ t) body ≡ true
+text_ahead [] t body has = absurd (let wrong : false ≡ true = has in cc)
+text_ahead (j ∷ front) t body has =
     ap is_some (through (λ (k : Item). text_in k.deed) (brings body j) j (find (brings body) (front ++ t)))
     ∙ some_either (brings body j) (text_in j.deed) (text_of front body) (text_of (front ++ t) body)
-    (sym (ap is_some (through (λ (k : Item). text_in k.deed) (brings body j) j (find (brings body) front))) ∙ has) (text_before front t body)
+    (sym (ap is_some (through (λ (k : Item). text_in k.deed) (brings body j) j (find (brings body) front))) ∙ has) (text_ahead front t body)
 
 -- what items showed does not matter
 pub has_unshown : (t : List Item) (body : Body) → has_text t body ≡ has_text (map unshown t) body
@@ -168,6 +171,25 @@ own_texts (i ∷ t) = (
   all_weaker (λ (j : Item). is_some (text_in j.deed) ≡ true → has_text t (body_of j) ≡ true) (λ (j : Item). is_some (text_in j.deed) ≡ true → has_text (i ∷ t) (body_of j) ≡ true)
       (λ j own some. text_later i t (body_of j) (own some)) t (own_texts t),
 )
+
+-- ---- texts that come with a base
+
+-- of the first, or else of the other
+pub or_some : (o p : Option (List ℕ)) → is_some o ≡ true → is_some (option_or o p) ≡ true
+or_some None p e = absurd (let wrong : false ≡ true = e in cc)
+or_some (Some text) p e = refl
+
+pub or_last : (o p : Option (List ℕ)) → is_some p ≡ true → is_some (option_or o p) ≡ true
+or_last None p e = e
+or_last (Some text) p e = refl
+
+or_weaker : (o p rest : Option (List ℕ)) → (is_some o ≡ true → is_some p ≡ true) → is_some (option_or o rest) ≡ true → is_some (option_or p rest) ≡ true
+or_weaker None p rest weaker e = or_last p rest e
+or_weaker (Some text) p rest weaker e = or_some p rest (weaker refl)
+
+-- where items have the text of a body, or it comes with the base, so do others that have what these have
+pub with_weaker : (texts : BaseTexts) (t s : List Item) (body : Body) → (has_text t body ≡ true → has_text s body ≡ true) → has_text_with texts t body ≡ true → has_text_with texts s body ≡ true
+with_weaker texts t s body weaker has = or_weaker (text_of t body) (text_of s body) (text_before texts body) weaker has
 
 -- ---- sizes
 
@@ -209,19 +231,19 @@ text_within t later i body text none here =
 
 -- the sizes of the texts that were there, and of the one that an item brings whose number is another than those before it
 pub sizes_on : (t later : List Item) (i : Item) (place : Place) (from : ℕ) (old new : List (Body × Note)) → AllByRecursion (λ (j : Item). i.number ≢ j.number) t
-    → (o : Option (List ℕ)) → text_in i.deed ≡ o → NotesText o (body_of i) place from old new → SizesOf old (t ++ later) → SizesOf new ((t ++ i ∷ []) ++ later)
-sizes_on t later i place from old new others None brought noted sizes body =
+    → (o : Option (List ℕ)) → text_in i.deed ≡ o → NotesText o (body_of i) place from old new → (texts : BaseTexts) → SizesOf old texts (t ++ later) → SizesOf new texts ((t ++ i ∷ []) ++ later)
+sizes_on t later i place from old new others None brought noted texts sizes body =
     let none : text_of (i ∷ []) body ≡ None = text_single i body ∙ ap (λ o. cond (same_body (body_of i) body) o None) brought ∙ none_either (same_body (body_of i) body) in
-    ap (λ (n : List (Body × Note)). size_of n body) noted ∙ sizes body ∙ ap (option_map length) (sym (text_between t later i body none))
-sizes_on t later i place from old new others (Some text) brought noted sizes body =
+    ap (λ (n : List (Body × Note)). size_of n body) noted ∙ sizes body ∙ ap (λ (o : Option (List ℕ)). option_map length (option_or o (text_before texts body))) (sym (text_between t later i body none))
+sizes_on t later i place from old new others (Some text) brought noted texts sizes body =
     let own : text_of (i ∷ []) body ≡ cond (same_body (body_of i) body) (Some text) None = text_single i body ∙ ap (λ o. cond (same_body (body_of i) body) o None) brought in
     ap (option_map (λ (note : Note). note.length)) (noted body)
     ∙ mapped (λ (note : Note). note.length) (same_body (body_of i) body) (Some (record { place = place; from = from; length = length text })) (note_of old body)
-    ∙ elim (same_body (body_of i) body) as (λ b. same_body (body_of i) body ≡ b → text_of (i ∷ []) body ≡ cond b (Some text) None → cond b (Some (length text)) (size_of old body) ≡ option_map length (text_of ((t ++ i ∷ []) ++ later) body)) [
+    ∙ elim (same_body (body_of i) body) as (λ b. same_body (body_of i) body ≡ b → text_of (i ∷ []) body ≡ cond b (Some text) None → cond b (Some (length text)) (size_of old body) ≡ option_map length (text_with texts ((t ++ i ∷ []) ++ later) body)) [
       | true ↦ λ e here.
           let same : i.number ≡ body.origin = grind (arith, nat_tests) in
-          ap (option_map length) (sym (text_within t later i body text (none_numbered t body i.number others same) here))
-      | false ↦ λ e here. sizes body ∙ ap (option_map length) (sym (text_between t later i body here))
+          ap (λ (o : Option (List ℕ)). option_map length (option_or o (text_before texts body))) (sym (text_within t later i body text (none_numbered t body i.number others same) here))
+      | false ↦ λ e here. sizes body ∙ ap (λ (o : Option (List ℕ)). option_map length (option_or o (text_before texts body))) (sym (text_between t later i body here))
     ] refl own
 
 -- ---- notes
@@ -247,9 +269,10 @@ measured f None = refl
 measured f (Some x) = refl
 
 -- where sizes are noted the texts of the items have notes
-pub all_noted : (notes : List (Body × Note)) (t later : List Item) → SizesOf notes (t ++ later) → AllByRecursion (IsNotedIn notes) t
-all_noted notes t later sizes =
+pub all_noted : (notes : List (Body × Note)) (texts : BaseTexts) (t later : List Item) → SizesOf notes texts (t ++ later) → AllByRecursion (IsNotedIn notes) t
+all_noted notes texts t later sizes =
     all_weaker (λ (i : Item). is_some (text_in i.deed) ≡ true → has_text (t ++ later) (body_of i) ≡ true) (IsNotedIn notes)
     (λ (i : Item) own some.
-    sym (measured (λ (note : Note). note.length) (note_of notes (body_of i))) ∙ ap is_some (sizes (body_of i)) ∙ measured length (text_of (t ++ later) (body_of i)) ∙ own some)
+    sym (measured (λ (note : Note). note.length) (note_of notes (body_of i))) ∙ ap is_some (sizes (body_of i)) ∙ measured length (text_with texts (t ++ later) (body_of i))
+    ∙ or_some (text_of (t ++ later) (body_of i)) (text_before texts (body_of i)) (own some))
     t (all_first (λ (i : Item). is_some (text_in i.deed) ≡ true → has_text (t ++ later) (body_of i) ≡ true) t later (own_texts (t ++ later)))

@@ -16,17 +16,16 @@ use Rattle.verb_core.specs.Boxes.{box_of}
 use Rattle.verb_core.specs.Store.{MailStore, IsValid, is_house, is_known, opening, users_of}
 use Rattle.verb_core.specs.Step.{Boxes}
 use Rattle.verb_core.specs.Stamps.{opening_stamps}
-use Rattle.verb_core.specs.Items.{text_of}
 use Rattle.verb_core.proofs.OpeningLaws.{held-opening, opening-IsBase}
 use Rattle.seal_log.specs.declared.place.Place.{Place}
 use Rattle.shelf.specs.declared.note.Note.{Note}
 use Rattle.shelf.specs.Notes.{size_of}
-use Rattle.store_kept.specs.Kept.{Kept, Origin, Reports, kept_from, new_desk, opening_origin, upgraded}
+use Rattle.store_kept.specs.Kept.{BaseTexts, Kept, Origin, Reports, kept_from, new_desk, opening_origin, upgraded}
 use Rattle.store_kept.specs.Bases.{HasBase}
 use Rattle.mail_desk.specs.Desk.{IsDesk}
 use Rattle.mail_desk.specs.Held.{marks_kept}
-use Rattle.mail_desk.specs.Timeline.{has_text}
-use Rattle.store_kept.specs.Texts.{all_bodies, text_before}
+use Rattle.mail_desk.specs.Timeline.{SizesOf}
+use Rattle.store_kept.specs.Texts.{all_bodies, has_text_with, text_before, text_with}
 
 -- empty mailboxes name no body
 pub empty_boxes : (test : Body → Bool) (users : List User) →
@@ -48,15 +47,17 @@ pub new_desk_is : (origin : Origin) (store : MailStore) (stamps : List (BoxId ×
     → kept_from origin store timeline stamps first reports (marks_kept 0 0 marks) false None ≡ new_desk origin.house origin.opening
 new_desk_is origin store stamps first timeline reports marks made stored stamped numbered empty none unmarked =
     (λ j. kept_from origin (stored j) (empty j) (stamped j) (numbered j) (none j) (marks_kept 0 0 (unmarked j)) false None)
-    ∙ ap (λ (o : Origin). kept_from (record origin { base = o.base }) o.base [] (opening_stamps o.base) origin.house.first [] (marks_kept 0 0 []) false None) made
+    ∙ ap (λ (o : Origin). kept_from (record origin { base = o.base; texts = o.texts; first = o.first }) o.base [] (opening_stamps o.base) origin.house.first [] (marks_kept 0 0 []) false None) made
 
 -- the opening store carries any timeline
 pub base_opening : (house : House) (conf : Conf) → is_house house ≡ true → list_all (λ a. list_all (is_known house) a.users) conf.aliases ≡ true → HasBase (new_desk house conf)
 base_opening house conf sound aliases = record {
   house_is = refl;
   stands = opening-IsBase house conf [] sound aliases (record { formed = tt; apart = tt });
-  beyond = λ number le u key is. held-opening house conf u key;
-  texts = empty_boxes (λ (body : Body). is_some (text_before (opening house conf) body)) (users_of house);
+  new = tt;
+  beyond = λ number le. record { fresh = λ u key is. held-opening house conf u key; unnamed = tt };
+  drawn = omega arith;
+  texts = empty_boxes (λ (body : Body). is_some (text_before [] body)) (users_of house);
 }
 
 -- one stamp is below the next number
@@ -85,7 +86,7 @@ new_desk_holds house conf sound aliases filters valid named =
       apart = tt;
       below = tt;
       reports = refl;
-      texts = empty_boxes (has_text []) (users_of house);
+      texts = empty_boxes (has_text_with [] []) (users_of house);
       undone = tt;
     }
 
@@ -110,6 +111,6 @@ upgraded_holds kept is = record {
   undone = is.undone;
 }
 
--- nothing is noted, and no item brought a text
-pub nothing_known : (notes : List (Body × Note)) (t : List Item) → notes ≡ [] → t ≡ [] → (body : Body) → size_of notes body ≡ option_map length (text_of t body)
-nothing_known notes t none empty body = ap (λ (n : List (Body × Note)). size_of n body) none ∙ sym (ap (λ (s : List Item). option_map length (text_of s body)) empty)
+-- nothing is noted, no item brought a text, and none comes with the base
+pub nothing_known : (notes : List (Body × Note)) (texts : BaseTexts) (t : List Item) → notes ≡ [] → texts ≡ [] → t ≡ [] → SizesOf notes texts t
+nothing_known notes texts t none bare empty body = ap (λ (n : List (Body × Note)). size_of n body) none ∙ sym (λ j. option_map length (text_with (bare j) (empty j) body))

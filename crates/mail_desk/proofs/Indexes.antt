@@ -1,7 +1,8 @@
 -- The places of items, by their numbers.
-use Rattle.std.proofs.Common.{◌≡◌, ◌≢◌, inl, inr, ℕ, zero, suc, ◌-◌, ◌<◌, ◌≤◌, Bool, true, false, cond, filter, nat_lt, List, [], ◌∷◌, ◌++◌, length, get_or, take, None, Some, Result, Err, refl, ap, sym, subst, ◌∙◌, arith, rules}
-use Rattle.std.specs.List.{AllByRecursion, Contains}
-use Rattle.std.specs.List.Sorted.{IsBinarySearchResult, IsNonDecreasingBy, IsPermutation}
+use Rattle.std.proofs.Common.{◌≡◌, ◌≢◌, inl, inr, ℕ, zero, suc, ◌-◌, ◌<◌, ◌≤◌, Bool, true, false, cond, filter, nat_lt, List, [], ◌∷◌, ◌++◌, length, get_or, take, None, Some, Result, Ok, Err, is_some, Option, option_copied, Bor, refl, ap, sym, subst, ◌∙◌, arith, rules}
+use Rattle.std.specs.List.{AllByRecursion, Contains, insert}
+use Rattle.std.specs.Prelude.{MatchResult, ◌||◌, ◌==◌}
+use Rattle.std.specs.List.Sorted.{IsBinarySearchResult, IsNonDecreasingBy, IsPermutation, IsSearchInRange}
 use Rattle.std.specs.Ordering.{nat_cmp, ordering_index}
 use Rattle.std.specs.declared.cmp.Ordering.{Ordering}
 use Rattle.std.specs.declared.cmp.Ordering.TheVariants.{Less, Equal, Greater}
@@ -10,11 +11,12 @@ use Rattle.std.proofs.lemmas.Bool.{cases_order, lt-ltb, ltb-true}
 use Rattle.std.proofs.lemmas.Cmp.{ranked}
 use Rattle.std.proofs.lemmas.List.{get_or-take, get_or_append_left, get_or_push, length-take-le, length_push}
 use Rattle.std.proofs.lemmas.List.Elements.{All-filter, All-from_recursion, All-push, All-weaker, Contains-append_left, Contains-append_right, Contains-get_or, Contains-push, filter_passes}
-use Rattle.std.proofs.lemmas.List.Sorted.{All-permutation, Contains-permutation, IsNonDecreasingBy-push}
+use Rattle.std.proofs.lemmas.List.Sorted.{All-permutation, Contains-permutation, IsNonDecreasingBy-insert, IsNonDecreasingBy-push, IsPermutation-append_comm, IsPermutation-insert, IsPermutation-trans}
 use Rattle.verb_core.specs.declared.item.Item.{Item}
 use Rattle.verb_core.specs.Items.{NumbersApart}
 use Rattle.verb_core.proofs.Searched.{index_at_most, lower_is}
-use Rattle.mail_desk.specs.Places.{HasPlaces, IsIndex, IsPlaceIn}
+use Rattle.store_kept.specs.Founding.{has_number}
+use Rattle.mail_desk.specs.Places.{HasPlaces, IsIndex, IsPlaceAmong, IsPlaceIn}
 use Rattle.mail_desk.specs.Timeline.{item_of}
 use Rattle.mail_desk.proofs.Timelines.{front_at, front_none, item_at, none_at}
 
@@ -36,7 +38,7 @@ less_compared a b n lt =
           rw second (index_at_most (nat_cmp a n))
     ]
 
-compared : (a b n : ℕ) → a ≤ b → ordering_index (nat_cmp a n) ≤ ordering_index (nat_cmp b n)
+pub compared : (a b n : ℕ) → a ≤ b → ordering_index (nat_cmp a n) ≤ ordering_index (nat_cmp b n)
 compared a b n le =
     elim (cases_order a b) [
       | inl same ↦ rw same (search rules)
@@ -199,3 +201,40 @@ index_sorted rows sorted t places ordered same = record {
   right = All-permutation (IsPlaceIn t) rows sorted same places.right;
   whole = λ place d within. Contains-permutation rows sorted ((get_or t place d).number, place) same (places.whole place d within);
 }
+
+-- an item of a number is found where there is one
+pub number_found : (t : List Item) (number : ℕ) → is_some (item_of t number) ≡ has_number t number
+number_found [] number = refl
+number_found (i ∷ t) number = elim (i.number == number) as (λ b. is_some (cond b (Some i) (item_of t number)) ≡ (b || has_number t number)) [ true ↦ refl | false ↦ number_found t number ]
+
+pub copied_some : {X : Type 0} (o : Option (Bor X)) → is_some (option_copied o) ≡ is_some o
+copied_some None = refl
+copied_some (Some x) = refl
+
+-- ---- a row that comes in among the others
+
+-- where a search by halves ends, a number comes in
+pub place_among : (rows : List (ℕ × ℕ)) (number : ℕ) → IsNonDecreasingBy (λ (r : ℕ × ℕ). r.0) rows → (r : Result ℕ ℕ) → IsSearchInRange r (length rows) → IsBinarySearchResult (λ (row : ℕ × ℕ). nat_cmp row.0 number) rows r
+    → (at : ℕ) → MatchResult r (λ place. place ≡ at) (λ place. place ≡ at) → IsPlaceAmong number rows at
+place_among rows number rising (Ok place) range equal at is =
+    let here = λ (d : ℕ × ℕ). ranked (get_or rows place d).0 number Equal (sym (equal d)) in
+    record {
+      within = omega (arith, range, is);
+      before = λ k d less. let le = rising k place d (omega (arith, is)) range in let same : (get_or rows place d).0 ≡ number = here d in omega (arith, le);
+      behind = λ k d more within. let le = rising place k d (omega (arith, is)) within in let same : (get_or rows place d).0 ≡ number = here d in omega (arith, le);
+    }
+place_among rows number rising (Err place) range parted at is =
+    let ends = parted (λ i j d le within. compared (get_or rows i d).0 (get_or rows j d).0 number (rising i j d le within)) in
+    record {
+      within = omega (arith, range, is);
+      before = λ k d less. let lower : (get_or rows k d).0 < number = ranked (get_or rows k d).0 number Less (sym (ends.0 k d (omega (arith, range, is)) (omega (arith, is)))) in omega (arith, lower);
+      behind = λ k d more within. let higher : number < (get_or rows k d).0 = ranked (get_or rows k d).0 number Greater (sym (ends.1 k d (omega (arith, is)) within)) in omega (arith, higher);
+    }
+
+-- the last item's row
+pub index_put : (rows : List (ℕ × ℕ)) (t : List Item) (item : Item) (at : ℕ) → IsIndex rows t → IsPlaceAmong item.number rows at → IsIndex (insert rows at (item.number, length t)) (t ++ item ∷ [])
+index_put rows t item at index among =
+    let row : ℕ × ℕ = (item.number, length t) in
+    index_sorted (rows ++ row ∷ []) (insert rows at row) (t ++ item ∷ []) (place_last rows t item (record { right = index.right; whole = index.whole }))
+    (IsNonDecreasingBy-insert (λ (r : ℕ × ℕ). r.0) rows at row index.ordered among.within among.before among.behind)
+    (IsPermutation-trans (rows ++ row ∷ []) (row ∷ rows) (insert rows at row) (IsPermutation-append_comm rows (row ∷ [])) (IsPermutation-insert rows at row))

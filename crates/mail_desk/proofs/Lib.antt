@@ -11,3 +11,4 @@ pub mod Going
 pub mod Readied
 pub mod Remades
 pub mod Counted
+pub mod Foundings

@@ -71,6 +71,16 @@ does_here (Ok e) what s i text valid is to alike made =
     ∙ ap (λ (after : MailStore × Shown). after.0) alike
 does_here (Err why) what s i text valid is to alike made = tt
 
+-- and what it shows there
+pub shows_here : {W : Type 0} (r : Result Effect W) (what : Resolved) (s : MailStore) (i : Item) (text : List ℕ) → what.item ≡ stored i → sought_in what ≡ sought s text i.by (stored_deed i.deed)
+    → step_text s (stored i) text ≡ step_text s i text → IfOk r (λ e. IsEffect e what s) → IfOk r (λ e. e.shown ≡ (step_text s i text).1)
+shows_here (Ok e) what s i text is to alike made =
+    made.shown
+    ∙ ap (λ (t : Sought). (step_with t s what.item).1) to
+    ∙ ap (λ (j : Item). (step_with (sought s text i.by (stored_deed i.deed)) s j).1) is
+    ∙ ap (λ (after : MailStore × Shown). after.1) alike
+shows_here (Err why) what s i text is to alike made = tt
+
 -- what holds of what a value was made of
 pub through : {A B W : Type 0} (r : Result A W) (f : A → B) (e : Result B W) → IfOk r (λ x. e ≡ Ok (f x)) → (P : B → Type 0) → IfOk e P → IfOk r (λ x. P (f x))
 through (Ok x) f e is P holds = subst (λ q. IfOk q P) is holds
@@ -85,21 +95,23 @@ pub can_enter : (r : Result Ready MemoryWant) (held : Held) (item : Item) → Is
     → IfOk r (λ ready. ready.item ≡ item)
     → IfOk r (λ ready. ready.stored ≡ item)
     → IfOk r (λ ready. applied ready.effect (store_of held.kept) ≡ (step (store_of held.kept) item).0)
+    → IfOk r (λ ready. ready.effect.shown ≡ (step (store_of held.kept) item).1)
     → IfOk r (λ ready. restamped ready.stamps held.kept.stamps ≡ stamps_after item.number (step (store_of held.kept) item).0.boxes held.kept.stamps)
     → IfOk r (λ ready. HasSpare ready.stamps (length held.kept.stamps))
     → IfOk r (λ ready. IsReady ready.effect held.room.store)
     → OnOk r (0 < held.room.items) → OnOk r (0 < held.room.notes)
     → IfOk r (λ ready. CanEnter ready held)
-can_enter (Ok ready) held item formed number left is stored does stamps spare effect items notes = record {
+can_enter (Ok ready) held item formed number left is stored does shows stamps spare effect items notes = record {
   formed = subst (λ (i : Item). IsWellFormed held.kept.house i) (sym is) formed;
   stored = stored ∙ sym is;
   number = ap (λ (i : Item). i.number) is ∙ number;
   left = left;
   does = does ∙ ap (λ (i : Item). (step (store_of held.kept) i).0) (sym is);
+  shows = shows ∙ ap (λ (i : Item). (step (store_of held.kept) i).1) (sym is);
   stamps = stamps ∙ ap (λ (i : Item). stamps_after i.number (step (store_of held.kept) i).0.boxes held.kept.stamps) (sym is);
   spare = spare;
   effect = effect;
   items = items;
   notes = notes;
 }
-can_enter (Err why) held item formed number left is stored does stamps spare effect items notes = tt
+can_enter (Err why) held item formed number left is stored does shows stamps spare effect items notes = tt

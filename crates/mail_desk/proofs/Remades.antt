@@ -2,8 +2,8 @@
 use Rattle.std.proofs.Common.{◌≡◌, ℕ, ◌+◌, ◌-◌, ◌<◌, ◌≤◌, List, [], length, option_map, vec_len, vec_capacity, Result, Ok, Err, IfOk, OnOk, sym, subst, ◌∙◌, arith}
 use Rattle.undo_base.specs.declared.memory.NoMemory.{NoMemory as MemoryWant}
 use Rattle.verb_core.specs.declared.mailbox.Body.{Body}
-use Rattle.verb_core.specs.Items.{text_of}
 use Rattle.store_kept.specs.Kept.{Kept}
+use Rattle.store_kept.specs.Texts.{text_with}
 use Rattle.store_kept.proofs.Rows.{placed_rises}
 use Rattle.shelf.specs.Notes.{note_of}
 use Rattle.mail_desk.specs.declared.noting.Fresh.{Fresh}
@@ -47,8 +47,8 @@ some_room (Err why) len capacity more = tt
 -- it is ready
 pub remakes : (r : Result Remade MemoryWant) (old held : Held) (key : List ℕ) (left : Left) (fresh : Fresh) → IsDesk held.kept → FitsIn held.kept left → LeavesUndone held.kept left → old.kept.timeline ≡ held.kept.timeline
     → IfOk r (λ made. made.left ≡ left) → IfOk r (λ made. made.key ≡ key)
-    → IfOk r (λ made. (body : Body) → note_of made.shelf.notes body ≡ renoted old.notes fresh (asked_left old.kept.timeline left) body)
-    → IfOk r (λ made. SizesOf made.shelf.notes (asked_left held.kept.timeline left))
+    → IfOk r (λ made. (body : Body) → note_of made.shelf.notes body ≡ renoted old.notes fresh old.kept.texts (asked_left old.kept.timeline left) body)
+    → IfOk r (λ made. SizesOf made.shelf.notes held.kept.texts (asked_left held.kept.timeline left))
     → IfOk r (λ made. made.later.items ≡ []) → IfOk r (λ made. vec_len made.later + (length held.kept.timeline - left.place) ≤ vec_capacity made.later)
     → OnOk r (length left.behind ≤ held.room.items) → OnOk r (0 < held.room.reports) → IfOk r (Remakes old held key left fresh)
 remakes (Ok made) old held key left fresh desk fits undone timeline lefts keyed notes sizes none later places room = record {
@@ -57,7 +57,7 @@ remakes (Ok made) old held key left fresh desk fits undone timeline lefts keyed 
   notes = notes;
   ready = record {
     desk = subst (λ (k : Kept). IsDesk k) (sym (λ j. left_as held.kept (keyed j) (lefts j))) (desk_left held.kept key left desk fits undone);
-    sizes = λ body. sizes body ∙ sym (λ j. option_map length (text_of (asked_left held.kept.timeline (lefts j)) body));
+    sizes = λ body. sizes body ∙ sym (λ j. option_map length (text_with held.kept.texts (asked_left held.kept.timeline (lefts j)) body));
     from = subst (λ (l : Left). l.from ≤ l.place) (sym lefts) fits.from;
     place = subst (λ (l : Left). l.place ≤ length held.kept.timeline) (sym lefts) fits.place;
     none = none;

@@ -1,22 +1,28 @@
 -- Where the texts of items in any order lie after a cycle.
-use Rattle.std.proofs.Common.{◌≡◌, ◌≢◌, inl, inr, ℕ, ◌+◌, ◌<◌, ◌==◌, Bool, true, false, ◌&&◌, cond, List, [], ◌∷◌, ◌++◌, length, find, get_or, Option, None, Some, is_some, option_map, option_and_then, Result, Ok, Err, IfOk, refl, ap, sym, subst, ◌∙◌, arith}
+use Rattle.std.proofs.Common.{◌≡◌, ◌≢◌, inl, inr, ℕ, ◌+◌, ◌<◌, ◌==◌, Bool, true, false, ◌&&◌, cond, List, [], ◌∷◌, ◌++◌, length, find, get_or, Option, None, Some, is_some, is_eq, option_map, option_and_then, Result, Ok, Err, IfOk, refl, ap, sym, subst, ◌∙◌, arith}
 use Rattle.std.specs.List.{All, AllByRecursion, Contains, cons_option}
 use Rattle.std.specs.List.Sorted.{IsPermutation}
 use Rattle.std.specs.Option.{option_or}
-use Rattle.std.specs.Cmp.{first_so}
+use Rattle.std.specs.Cmp.{first_so, tied_itself}
+use Rattle.std.specs.Ordering.{eq_by_cmp}
+use Rattle.std.specs.Prelude.{◌⊎◌}
 use Rattle.std.proofs.lemmas.Bool.{cases_order}
 use Rattle.std.proofs.lemmas.Bool.Decides.{nat_tests}
 use Rattle.std.proofs.lemmas.List.{get_or_default}
-use Rattle.std.proofs.lemmas.List.Elements.{All-contains, All-from_recursion, Contains-append_right, Contains-get_or, filter_map-append}
+use Rattle.std.proofs.lemmas.List.Elements.{All-contains, All-from_recursion, Contains-append_left, Contains-append_right, Contains-get_or, filter_map-append}
 use Rattle.std.proofs.lemmas.List.Sorted.{All-permutation, Contains-permutation}
 use Rattle.verb_core.specs.declared.item.Item.{Item}
 use Rattle.verb_core.specs.declared.mailbox.Body.{Body}
 use Rattle.verb_core.specs.Deeds.{is_notice}
 use Rattle.verb_core.specs.Items.{NumbersApart, text_in, text_of}
 use Rattle.shelf.specs.declared.note.Note.{Note}
-use Rattle.shelf.specs.Notes.{Noted, note_of, same_body}
+use Rattle.shelf.specs.Notes.{Noted, note_of, same_body, size_of}
+use Rattle.store_kept.specs.Kept.{BaseTexts, body_cmp}
+use Rattle.store_kept.specs.Texts.{text_before, text_with}
+use Rattle.store_kept.proofs.Bodies.{bodies_total, tied}
+use Rattle.store_kept.proofs.Coming.{comes_from}
 use Rattle.mail_desk.specs.declared.noting.Fresh.{Fresh}
-use Rattle.mail_desk.specs.Noting.{IsNotedBy, IsNotedIn, Knows, note_by, noted_by, notice_note, renoted, rows_by}
+use Rattle.mail_desk.specs.Noting.{IsNotedBefore, IsNotedBy, IsNotedIn, Knows, note_by, noted_by, notice_note, renoted, rows_before, rows_by}
 use Rattle.mail_desk.specs.Timeline.{SizesOf, body_of, has_text, item_of, notice_text_of, notice_told_by}
 use Rattle.mail_desk.proofs.BodyTexts.{all_first, all_last, brings, itself, own_texts, text_joined, through}
 use Rattle.mail_desk.proofs.Timelines.{all_joined, all_weaker, unequal}
@@ -76,7 +82,11 @@ module _ (old : List Row) (fresh : Fresh) where
   by_texts body told in_memory =
       option_and_then (λ (text : List ℕ). option_or (note_of old body) (option_or (note_of fresh.shelf.notes body) (option_map (notice_note fresh.place) in_memory))) told
 
-  renoted_skips : (i : Item) (t : List Item) (body : Body) → i.number ≢ body.origin → renoted old fresh (i ∷ t) body ≡ renoted old fresh t body
+  -- the note that is due where an item brings the text
+  abbrev due : List Item → Body → Option Note
+  due t body = by_texts body (text_of t body) (notice_text_of t body)
+
+  renoted_skips : (i : Item) (t : List Item) (body : Body) → i.number ≢ body.origin → due (i ∷ t) body ≡ due t body
   renoted_skips i t body other = λ j. by_texts body (text_skips i t body other j) (notice_skips i t body other j)
 
   rows_elsewhere : (number : ℕ) (t : List Item) → AllByRecursion (λ (j : Item). number ≢ j.number) t → AllByRecursion (λ (r : Row). number ≢ r.0.origin) (rows_by old fresh t)
@@ -95,7 +105,7 @@ module _ (old : List Row) (fresh : Fresh) where
 
   -- whether a row tells the note that is due, of its text's length
   abbrev IsRight : List Item → Row → Type 0
-  IsRight t r = (renoted old fresh t r.0 ≡ Some r.1) × (option_map length (text_of t r.0) ≡ Some r.1.length)
+  IsRight t r = (due t r.0 ≡ Some r.1) × (option_map length (text_of t r.0) ≡ Some r.1.length)
 
   rows_stay : (i : Item) (t : List Item) (rs : List Row) → AllByRecursion (λ (r : Row). i.number ≢ r.0.origin) rs → AllByRecursion (IsRight t) rs → AllByRecursion (IsRight (i ∷ t)) rs
   rows_stay i t [] others right = tt
@@ -126,7 +136,7 @@ module _ (old : List Row) (fresh : Fresh) where
       one_of true = refl
       one_of false = refl
 
-  renoted_here : (i : Item) (t : List Item) (text : List ℕ) → text_in i.deed ≡ Some text → renoted old fresh (i ∷ t) (body_of i) ≡ note_by old fresh i text
+  renoted_here : (i : Item) (t : List Item) (text : List ℕ) → text_in i.deed ≡ Some text → due (i ∷ t) (body_of i) ≡ note_by old fresh i text
   renoted_here i t text brought =
       ap (λ (o : Option (List ℕ)). by_texts (body_of i) o (notice_text_of (i ∷ t) (body_of i))) (text_here i t text brought)
       ∙ ap (λ (o : Option Note). option_or (note_of old (body_of i)) (option_or (note_of fresh.shelf.notes (body_of i)) o)) (notice_here i t text brought)
@@ -263,36 +273,136 @@ module _ (old : List Row) (fresh : Fresh) where
       (right_behind (t ++ later) noted later (all_last (IsNotedBy old fresh) t later noted) had
       (all_last (λ (i : Item). is_some (text_in i.deed) ≡ true → has_text (t ++ later) (body_of i) ≡ true) t later (own_texts (t ++ later)))))
 
-  -- in any order they tell the notes that are due
-  notes_in_any_order : (t : List Item) (rows : List Row) (notes : List Row) → AllByRecursion (IsRight t) (rows_by old fresh t) → AllByRecursion (IsNotedBy old fresh) t → IsPermutation (rows_by old fresh t) rows → Knows notes rows (length rows)
-      → (body : Body) → (note_of notes body ≡ renoted old fresh t body) × (option_map (λ (note : Note). note.length) (note_of notes body) ≡ option_map length (text_of t body))
-  notes_in_any_order t rows notes rights noted same knows body = by (note_of notes body) (text_of t body) refl refl
-    where
-      right : All (IsRight t) rows
-      right = All-permutation (IsRight t) (rows_by old fresh t) rows same (All-from_recursion (IsRight t) (rows_by old fresh t) rights)
+  -- ---- and of the texts that come with a base
 
-      by : (o : Option Note) (p : Option (List ℕ)) → note_of notes body ≡ o → text_of t body ≡ p
-          → (note_of notes body ≡ renoted old fresh t body) × (option_map (λ (note : Note). note.length) (note_of notes body) ≡ option_map length (text_of t body))
-      by (Some note) p e f =
-          let row = All-contains (IsRight t) rows (body, note) right (knows.told body note e) in
-          (e ∙ sym row.0, ap (option_map (λ (n : Note). n.length)) e ∙ sym row.1)
-      by None None e f = (e ∙ sym (ap (λ (o : Option (List ℕ)). by_texts body o (notice_text_of t body)) f), ap (option_map (λ (n : Note). n.length)) e ∙ sym (ap (option_map length) f))
-      by None (Some text) e f =
-          let there = text_row t body text noted f in
-          let row = Contains-permutation (rows_by old fresh t) rows (body, there.0) same there.1 in
-          let some : is_some (note_of notes body) ≡ true = ap (λ (r : Row). is_some (note_of notes r.0)) (sym row.2) ∙ knows.noted row.0 (body, there.0) row.1 in
-          absurd (let wrong : false ≡ true = ap is_some (sym e) ∙ some in cc)
+  module _ (texts : BaseTexts) where
+    -- whether a row tells the note that is due, of its text's length, where texts come with a base
+    abbrev IsDue : List Item → Row → Type 0
+    IsDue t r = (renoted old fresh texts t r.0 ≡ Some r.1) × (option_map length (text_with texts t r.0) ≡ Some r.1.length)
 
-  -- a shelf that was made of them
-  pub notes_over : {W : Type 0} (r : Result Noted W) (t later : List Item) (rows sorted : List Row) → NumbersApart t → AllByRecursion (IsNotedIn old) later → AllByRecursion (IsNotedBy old fresh) (t ++ later) → rows ≡ rows_by old fresh (t ++ later) → IsPermutation rows sorted
-      → IfOk r (λ shelf. Knows shelf.notes sorted (length sorted)) → IfOk r (λ shelf. (body : Body) → note_of shelf.notes body ≡ renoted old fresh (t ++ later) body)
-  notes_over (Ok shelf) t later rows sorted apart had noted is same knows =
-      λ body. (notes_in_any_order (t ++ later) sorted shelf.notes (right_all t later apart noted had) noted (subst (λ (rs : List Row). IsPermutation rs sorted) is same) knows body).0
-  notes_over (Err why) t later rows sorted apart had noted is same knows = tt
+    own_with : (o p : Option (List ℕ)) (n : ℕ) → option_map length o ≡ Some n → option_or o p ≡ o
+    own_with None p n e = absurd (let wrong : ◌≡◌ {A = Option ℕ} None (Some n) = e in cc)
+    own_with (Some text) p n e = refl
 
-  -- and the sizes of the texts
-  pub sizes_over : {W : Type 0} (r : Result Noted W) (t later : List Item) (rows sorted : List Row) → NumbersApart t → AllByRecursion (IsNotedIn old) later → AllByRecursion (IsNotedBy old fresh) (t ++ later) → rows ≡ rows_by old fresh (t ++ later) → IsPermutation rows sorted
-      → IfOk r (λ shelf. Knows shelf.notes sorted (length sorted)) → IfOk r (λ shelf. SizesOf shelf.notes (t ++ later))
-  sizes_over (Ok shelf) t later rows sorted apart had noted is same knows =
-      λ body. (notes_in_any_order (t ++ later) sorted shelf.notes (right_all t later apart noted had) noted (subst (λ (rs : List Row). IsPermutation rs sorted) is same) knows body).1
-  sizes_over (Err why) t later rows sorted apart had noted is same knows = tt
+    due_right : (t : List Item) (r : Row) → IsRight t r → IsDue t r
+    due_right t r right =
+        let same : text_with texts t r.0 ≡ text_of t r.0 = own_with (text_of t r.0) (text_before texts r.0) r.1.length right.1 in
+        (ap (λ (o : Option (List ℕ)). by_texts r.0 o (notice_text_of t r.0)) same ∙ right.0, ap (option_map length) same ∙ right.1)
+
+    -- the size of a text that comes with the base was noted
+    before_size : (some : BaseTexts) (body : Body) (text : List ℕ) → AllByRecursion (IsNotedBefore old) some → text_before some body ≡ Some text → size_of old body ≡ Some (length text)
+    before_size [] body text noted e = absurd (let wrong : ◌≡◌ {A = Option (List ℕ)} None (Some text) = e in cc)
+    before_size (r ∷ some) body text noted e =
+        elim (eq_by_cmp body_cmp body r.0) as (λ b. eq_by_cmp body_cmp body r.0 ≡ b → cond b (Some r.1) (text_before some body) ≡ Some text → size_of old body ≡ Some (length text)) [
+          | true ↦ λ here is. let same : r.1 ≡ text = cc in ap (size_of old) (tied body r.0 here) ∙ noted.0 ∙ ap (λ (x : List ℕ). Some (length x)) same
+          | false ↦ λ other is. before_size some body text noted.1 is
+        ] refl e
+
+    -- it has one
+    each_known : (some : BaseTexts) → AllByRecursion (λ (r : Body × List ℕ). is_some (text_before some r.0) ≡ true) some
+    each_known [] = tt
+    each_known (r ∷ some) = (
+      ap (λ (b : Bool). is_some (cond b (Some r.1) (text_before some r.0))) (tied_same r.0),
+      all_weaker (λ (q : Body × List ℕ). is_some (text_before some q.0) ≡ true) (λ (q : Body × List ℕ). is_some (text_before (r ∷ some) q.0) ≡ true)
+          (λ q there. one_or (eq_by_cmp body_cmp q.0 r.0) (text_before some q.0) there) some (each_known some),
+    )
+      where
+        tied_same : (body : Body) → eq_by_cmp body_cmp body body ≡ true
+        tied_same body = ap is_eq (tied_itself bodies_total body)
+
+        one_or : (b : Bool) (o : Option (List ℕ)) → is_some o ≡ true → is_some (cond b (Some r.1) o) ≡ true
+        one_or true o e = refl
+        one_or false o e = e
+
+    -- the row of a body whose text comes with the base, which had a note
+    due_before : (t : List Item) (body : Body) (note : Note) (size : ℕ) → AllByRecursion (IsNotedBy old fresh) t → AllByRecursion (IsNotedBefore old) texts → note_of old body ≡ Some note → note.length ≡ size
+        → is_some (text_before texts body) ≡ true → IsDue t (body, note)
+    due_before t body note size noted before had long there = by (text_of t body) (text_before texts body) refl refl there
+      where
+        first : (o : Option (List ℕ)) → is_some o ≡ true → by_texts body o (notice_text_of t body) ≡ Some note
+        first None e = absurd (let wrong : false ≡ true = e in cc)
+        first (Some text) e = ap (λ (o : Option Note). option_or o (option_or (note_of fresh.shelf.notes body) (option_map (notice_note fresh.place) (notice_text_of t body)))) had
+
+        noted_size : (text : List ℕ) → size_of old body ≡ Some (length text) → ◌≡◌ {A = Option ℕ} (Some (length text)) (Some note.length)
+        noted_size text e = sym e ∙ ap (option_map (λ (n : Note). n.length)) had
+
+        by : (o p : Option (List ℕ)) → text_of t body ≡ o → text_before texts body ≡ p → is_some p ≡ true → (by_texts body (option_or o p) (notice_text_of t body) ≡ Some note) × (option_map length (option_or o p) ≡ Some note.length)
+        by (Some text) p e f some = (first (Some text) refl, ap Some (sym (had_length t body text note noted e had)))
+        by None (Some text) e f some = (first (Some text) refl, noted_size text (before_size texts body text before f))
+        by None None e f some = absurd (let wrong : false ≡ true = some in cc)
+
+    old_row : (t : List Item) (r : Body × List ℕ) (rest : List Row) → AllByRecursion (IsNotedBy old fresh) t → AllByRecursion (IsNotedBefore old) texts → IsNotedBefore old r → is_some (text_before texts r.0) ≡ true
+        → AllByRecursion (IsDue t) rest → AllByRecursion (IsDue t) (cons_option (option_map (λ (note : Note). (r.0, note)) (note_of old r.0)) rest)
+    old_row t r rest noted before size there right = by (note_of old r.0) refl
+      where
+        by : (o : Option Note) → note_of old r.0 ≡ o → AllByRecursion (IsDue t) (cons_option (option_map (λ (note : Note). (r.0, note)) o) rest)
+        by None e = right
+        by (Some note) e = (due_before t r.0 note note.length noted before e refl there, right)
+
+    old_rows : (t : List Item) → AllByRecursion (IsNotedBy old fresh) t → AllByRecursion (IsNotedBefore old) texts → (some : BaseTexts) → AllByRecursion (IsNotedBefore old) some
+        → AllByRecursion (λ (r : Body × List ℕ). is_some (text_before texts r.0) ≡ true) some → AllByRecursion (IsDue t) (rows_before old some)
+    old_rows t noted before [] sizes known = tt
+    old_rows t noted before (r ∷ some) sizes known = old_row t r (rows_before old some) noted before sizes.0 known.0 (old_rows t noted before some sizes.1 known.1)
+
+    -- each body that has a text by the base has a row
+    before_row : (some : BaseTexts) (body : Body) (text : List ℕ) → AllByRecursion (IsNotedBefore old) some → text_before some body ≡ Some text → (note : Note) × Contains (rows_before old some) (body, note)
+    before_row [] body text noted e = absurd (let wrong : ◌≡◌ {A = Option (List ℕ)} None (Some text) = e in cc)
+    before_row (r ∷ some) body text noted e =
+        elim (eq_by_cmp body_cmp body r.0) as (λ b. eq_by_cmp body_cmp body r.0 ≡ b → cond b (Some r.1) (text_before some body) ≡ Some text
+        → (note : Note) × Contains (cons_option (option_map (λ (note : Note). (r.0, note)) (note_of old r.0)) (rows_before old some)) (body, note)) [
+          | true ↦ λ here is. mine (tied body r.0 here) (note_of old r.0) noted.0
+          | false ↦ λ other is. let row = before_row some body text noted.1 is in (row.0, later (option_map (λ (note : Note). (r.0, note)) (note_of old r.0)) (rows_before old some) (body, row.0) row.1)
+        ] refl e
+      where
+        mine : body ≡ r.0 → (o : Option Note) → option_map (λ (n : Note). n.length) o ≡ Some (length r.1) → (note : Note) × Contains (cons_option (option_map (λ (note : Note). (r.0, note)) o) (rows_before old some)) (body, note)
+        mine is None e = absurd (let wrong : ◌≡◌ {A = Option ℕ} None (Some (length r.1)) = e in cc)
+        mine is (Some note) e = (note, subst (λ (b : Body). Contains ((r.0, note) ∷ rows_before old some) (b, note)) (sym is) (Contains-get_or ((r.0, note) ∷ rows_before old some) 0 (r.0, note) (omega arith)))
+
+    abbrev all_rows : List Item → List Row
+    all_rows t = rows_before old texts ++ rows_by old fresh t
+
+    due_all : (t later : List Item) → NumbersApart t → AllByRecursion (IsNotedBy old fresh) (t ++ later) → AllByRecursion (IsNotedBefore old) texts → AllByRecursion (IsNotedIn old) later → AllByRecursion (IsDue (t ++ later)) (all_rows (t ++ later))
+    due_all t later apart noted before had =
+        all_joined (IsDue (t ++ later)) (rows_before old texts) (rows_by old fresh (t ++ later)) (old_rows (t ++ later) noted before texts before (each_known texts))
+        (all_weaker (IsRight (t ++ later)) (IsDue (t ++ later)) (due_right (t ++ later)) (rows_by old fresh (t ++ later)) (right_all t later apart noted had))
+
+    -- in any order they tell the notes that are due
+    notes_in_any_order : (t : List Item) (rows : List Row) (notes : List Row) → AllByRecursion (IsDue t) (all_rows t) → AllByRecursion (IsNotedBy old fresh) t → AllByRecursion (IsNotedBefore old) texts → IsPermutation (all_rows t) rows → Knows notes rows (length rows)
+        → (body : Body) → (note_of notes body ≡ renoted old fresh texts t body) × (option_map (λ (note : Note). note.length) (note_of notes body) ≡ option_map length (text_with texts t body))
+    notes_in_any_order t rows notes rights noted before same knows body = by (note_of notes body) (text_with texts t body) refl refl
+      where
+        right : All (IsDue t) rows
+        right = All-permutation (IsDue t) (all_rows t) rows same (All-from_recursion (IsDue t) (all_rows t) rights)
+
+        from_either : (text : List ℕ) → (text_of t body ≡ Some text) ⊎ ((find (brings body) t ≡ None) × (text_before texts body ≡ Some text)) → (note : Note) × Contains (all_rows t) (body, note)
+        from_either text (inl own) = let row = text_row t body text noted own in (row.0, Contains-append_right (rows_before old texts) (rows_by old fresh t) (body, row.0) row.1)
+        from_either text (inr came) = let row = before_row texts body text before came.1 in (row.0, Contains-append_left (rows_before old texts) (rows_by old fresh t) (body, row.0) row.1)
+
+        a_row : (text : List ℕ) → text_with texts t body ≡ Some text → (note : Note) × Contains (all_rows t) (body, note)
+        a_row text f = from_either text (comes_from texts t body text f)
+
+        by : (o : Option Note) (p : Option (List ℕ)) → note_of notes body ≡ o → text_with texts t body ≡ p
+            → (note_of notes body ≡ renoted old fresh texts t body) × (option_map (λ (note : Note). note.length) (note_of notes body) ≡ option_map length (text_with texts t body))
+        by (Some note) p e f =
+            let row = All-contains (IsDue t) rows (body, note) right (knows.told body note e) in
+            (e ∙ sym row.0, ap (option_map (λ (n : Note). n.length)) e ∙ sym row.1)
+        by None None e f = (e ∙ sym (ap (λ (o : Option (List ℕ)). by_texts body o (notice_text_of t body)) f), ap (option_map (λ (n : Note). n.length)) e ∙ sym (ap (option_map length) f))
+        by None (Some text) e f =
+            let there = a_row text f in
+            let row = Contains-permutation (all_rows t) rows (body, there.0) same there.1 in
+            let some : is_some (note_of notes body) ≡ true = ap (λ (r : Row). is_some (note_of notes r.0)) (sym row.2) ∙ knows.noted row.0 (body, there.0) row.1 in
+            absurd (let wrong : false ≡ true = ap is_some (sym e) ∙ some in cc)
+
+    -- a shelf that was made of them
+    pub notes_over : {W : Type 0} (r : Result Noted W) (t later : List Item) (rows sorted : List Row) → NumbersApart t → AllByRecursion (IsNotedIn old) later → AllByRecursion (IsNotedBefore old) texts → AllByRecursion (IsNotedBy old fresh) (t ++ later)
+        → rows ≡ all_rows (t ++ later) → IsPermutation rows sorted → IfOk r (λ shelf. Knows shelf.notes sorted (length sorted)) → IfOk r (λ shelf. (body : Body) → note_of shelf.notes body ≡ renoted old fresh texts (t ++ later) body)
+    notes_over (Ok shelf) t later rows sorted apart had before noted is same knows =
+        λ body. (notes_in_any_order (t ++ later) sorted shelf.notes (due_all t later apart noted before had) noted before (subst (λ (rs : List Row). IsPermutation rs sorted) is same) knows body).0
+    notes_over (Err why) t later rows sorted apart had before noted is same knows = tt
+
+    -- and the sizes of the texts
+    pub sizes_over : {W : Type 0} (r : Result Noted W) (t later : List Item) (rows sorted : List Row) → NumbersApart t → AllByRecursion (IsNotedIn old) later → AllByRecursion (IsNotedBefore old) texts → AllByRecursion (IsNotedBy old fresh) (t ++ later)
+        → rows ≡ all_rows (t ++ later) → IsPermutation rows sorted → IfOk r (λ shelf. Knows shelf.notes sorted (length sorted)) → IfOk r (λ shelf. SizesOf shelf.notes texts (t ++ later))
+    sizes_over (Ok shelf) t later rows sorted apart had before noted is same knows =
+        λ body. (notes_in_any_order (t ++ later) sorted shelf.notes (due_all t later apart noted before had) noted before (subst (λ (rs : List Row). IsPermutation rs sorted) is same) knows body).1
+    sizes_over (Err why) t later rows sorted apart had before noted is same knows = tt

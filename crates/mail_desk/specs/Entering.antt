@@ -9,14 +9,15 @@ use Rattle.store_kept.specs.Kept.{store_of}
 use Rattle.mail_desk.specs.Held.{Held}
 use Rattle.mail_desk.specs.Stamping.{HasSpare, restamped}
 
--- The item has the next number and is made ready to be stored, the effect is what it does, the stamps with the changes are those after it, and there
--- is room for all of it.
+-- The item has the next number and is made ready to be stored, the effect is what it does and has what it shows, the stamps with the changes
+-- are those after it, and there is room for all of it.
 pub record CanEnter (ready : Ready) (held : Held) : Type 0 where
   pub formed : IsWellFormed held.kept.house ready.item
   pub stored : ready.stored ≡ ready.item
   pub number : ready.item.number ≡ held.kept.next
   pub left : held.kept.next < 4194304
   pub does : applied ready.effect (store_of held.kept) ≡ (step (store_of held.kept) ready.item).0
+  pub shows : ready.effect.shown ≡ (step (store_of held.kept) ready.item).1
   pub spare : HasSpare ready.stamps (length held.kept.stamps)
   pub stamps : restamped ready.stamps held.kept.stamps ≡ stamps_after ready.item.number (step (store_of held.kept) ready.item).0.boxes held.kept.stamps
   pub effect : IsReady ready.effect held.room.store

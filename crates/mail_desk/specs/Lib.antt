@@ -7,3 +7,4 @@ pub mod Entering
 pub mod Remaking
 pub mod Stamping
 pub mod Counting
+pub mod Founding

@@ -5,13 +5,13 @@ use Rattle.verb_core.specs.declared.item.Item.{Item}
 use Rattle.verb_core.specs.declared.mailbox.Body.{Body}
 use Rattle.verb_core.specs.declared.mailbox.BoxId.{BoxId}
 use Rattle.verb_core.specs.declared.mailbox.Mailbox.{Mailbox}
-use Rattle.verb_core.specs.Fates.{IsBase}
 use Rattle.verb_core.specs.Items.{IsTimeline}
 use Rattle.verb_core.specs.Store.{IsValid}
 use Rattle.shelf.specs.Notes.{note_of}
 use Rattle.withdraw.specs.declared.undone.UndoneBehind.{UndoneBehind}
+use Rattle.store_kept.specs.Bases.{StandsOn}
 use Rattle.store_kept.specs.Coming.{ComesIf}
-use Rattle.store_kept.specs.Kept.{Kept, rewound, with_report}
+use Rattle.store_kept.specs.Kept.{Kept, origin_of, rewound, with_report}
 use Rattle.store_kept.specs.Texts.{all_bodies, has_text_among, items_behind}
 use Rattle.mail_desk.specs.declared.noting.Fresh.{Fresh}
 use Rattle.mail_desk.specs.declared.remake.Left.{Left}
@@ -65,16 +65,16 @@ pub record FitsIn (kept : Kept) (left : Left) : Type 0 where
   pub fresh : AllByRecursion (λ (r : BoxId × ℕ). r.1 < left.next) left.stamps
   pub rises : kept.next + left.entered < left.next
   pub next : left.next ≤ 4194304
-  pub base : IsBase (timeline_left kept.timeline left) kept.base
+  pub base : StandsOn (origin_of kept) (timeline_left kept.timeline left)
 
 -- what it leaves to be withdrawn can come back
 abbrev pub LeavesUndone : Kept → Left → Type 0
-LeavesUndone kept left = ComesIf kept.house kept.base (timeline_left kept.timeline left) left.next (undone_left kept.timeline left)
+LeavesUndone kept left = ComesIf (origin_of kept) (timeline_left kept.timeline left) left.next (undone_left kept.timeline left)
 
 -- It is a desk, with the size of each text, the first items are there, and there is room for those behind them and for the report.
 pub record CanReplace (made : Remade) (held : Held) : Type 0 where
   pub desk : IsDesk (remade_as held.kept made)
-  pub sizes : SizesOf made.shelf.notes (asked_left held.kept.timeline made.left)
+  pub sizes : SizesOf made.shelf.notes held.kept.texts (asked_left held.kept.timeline made.left)
   pub from : made.left.from ≤ made.left.place
   pub place : made.left.place ≤ length held.kept.timeline
   pub none : made.later.items ≡ []
@@ -86,5 +86,5 @@ pub record CanReplace (made : Remade) (held : Held) : Type 0 where
 pub record Remakes (old new : Held) (asked : List ℕ) (due : Left) (fresh : Fresh) (made : Remade) : Type 0 where
   pub left : made.left ≡ due
   pub key : made.key ≡ asked
-  pub notes : (body : Body) → note_of made.shelf.notes body ≡ renoted old.notes fresh (asked_left old.kept.timeline due) body
+  pub notes : (body : Body) → note_of made.shelf.notes body ≡ renoted old.notes fresh old.kept.texts (asked_left old.kept.timeline due) body
   pub ready : CanReplace made new

@@ -5,8 +5,10 @@ use Rattle.verb_core.specs.declared.item.Shown.TheVariants.{Nothing}
 use Rattle.verb_core.specs.declared.mailbox.Body.{Body}
 use Rattle.verb_core.specs.declared.mailbox.BoxId.{BoxId}
 use Rattle.verb_core.specs.declared.mailbox.Mailbox.{Mailbox}
+use Rattle.verb_core.specs.Deeds.{is_notice}
 use Rattle.verb_core.specs.Items.{text_in, text_of}
-use Rattle.store_kept.specs.Texts.{all_bodies, is_in_memory}
+use Rattle.store_kept.specs.Kept.{BaseTexts}
+use Rattle.store_kept.specs.Texts.{all_bodies, is_in_memory, text_with}
 use Rattle.seal_log.specs.declared.place.Place.{Place}
 use Rattle.shelf.specs.declared.note.Note.{Note}
 use Rattle.shelf.specs.Notes.{NotesOnly, note_of, size_of}
@@ -32,21 +34,29 @@ NotesText (Some text) body place from old new = NotesOnly old new body (record {
 abbrev pub told_by : Body → Item → Option (List ℕ)
 told_by body i = if i.rev == body.rev then text_in i.deed else None
 
--- the same of a notice: its text is in memory
+-- the same of a notice
 abbrev pub notice_told_by : Body → Item → Option (List ℕ)
-notice_told_by body i = if is_in_memory i then told_by body i else None
+notice_told_by body i = if is_notice i.deed then told_by body i else None
 
 -- the text of a body that a notice brings
 abbrev pub notice_text_of : List Item → Body → Option (List ℕ)
 notice_text_of t body = option_and_then (notice_told_by body) (item_of t body.origin)
 
--- the note of a body whose text is not in memory
-abbrev pub noted_of : List Item → List (Body × Note) → Body → Option Note
-noted_of t notes body = if is_some (notice_text_of t body) then None else note_of notes body
+-- the same of one of this journal, whose text is in memory
+abbrev pub memory_told_by : ℕ → Body → Item → Option (List ℕ)
+memory_told_by first body i = if is_in_memory first i then told_by body i else None
 
--- the sizes of texts are noted, and no others
-abbrev pub SizesOf : List (Body × Note) → List Item → Type 0
-SizesOf notes t = (body : Body) → size_of notes body ≡ option_map length (text_of t body)
+-- the text of a body that is in memory, where numbers are drawn from the first one on
+abbrev pub text_in_memory : ℕ → List Item → Body → Option (List ℕ)
+text_in_memory first t body = option_and_then (memory_told_by first body) (item_of t body.origin)
+
+-- the note of a body whose text is not in memory
+abbrev pub noted_of : ℕ → List Item → List (Body × Note) → Body → Option Note
+noted_of first t notes body = if is_some (text_in_memory first t body) then None else note_of notes body
+
+-- the sizes of texts are noted, of those that come with a base and those that items bring, and no others
+abbrev pub SizesOf : List (Body × Note) → BaseTexts → List Item → Type 0
+SizesOf notes texts t = (body : Body) → size_of notes body ≡ option_map length (text_with texts t body)
 
 -- whether a body has a text
 abbrev pub has_text : List Item → Body → Bool

@@ -170,6 +170,13 @@ impl Desk {
         first(from_place(self.timeline.as_slice(), from as usize), 1000)
     }
 
+    /// Copies of the items behind a place (0 is before the first), without their texts.
+    pub fn bare_behind(&self, alloc: Global, place: usize) -> Result<Items, NoMemory>
+        ensures { IfOk result (λ items. items ≡ map bare_item (drop place self.now.kept.timeline)) }
+    {
+        bare_items(alloc, from_place(self.timeline.as_slice(), place))
+    }
+
     /// Copies of at most a thousand items from a place on (0 is the first), without their texts.
     pub fn timeline(&self, alloc: Global, from: u32) -> Result<Items, NoMemory>
         ensures { IfOk result (λ items. items ≡ listed self.now.kept.timeline from) }

@@ -72,7 +72,7 @@ impl Model for Desk {
 
     ghost invariant = { λ d. record {
       desk : IsDesk (kept_from d.base d.store.store d.timeline.items d.stamps d.next d.reports.items (marks_kept d.since d.taken d.shelf.marks) d.deep d.undone);
-      sizes : SizesOf d.shelf.notes (d.timeline.items ++ items_behind d.undone);
+      sizes : SizesOf d.shelf.notes d.base.texts (d.timeline.items ++ items_behind d.undone);
     } };
 }
 
@@ -243,7 +243,7 @@ impl Desk {
     /// Where the text of each body lies that has one or can come back, and its size.
     pub fn shelf(&self) -> &Shelf
         ensures notes { result.now.notes ≡ self.now.notes }
-        ensures sizes { SizesOf result.now.notes (items_asked self.now.kept) }
+        ensures sizes { SizesOf result.now.notes self.now.kept.texts (items_asked self.now.kept) }
         ensures known { IsTrue (has_sizes result.now.notes (store_of self.now.kept).boxes) }
     {
         &self.shelf
@@ -312,7 +312,7 @@ impl Desk {
         ensures next { self.now.kept.next ≤ 4194304 }
         ensures reports { IsTrue (is_by_key self.now.kept.reports) }
         ensures texts { IsTrue (all_bodies (has_text_kept self.now.kept) (store_of self.now.kept).boxes) }
-        ensures sizes { SizesOf self.now.notes (items_asked self.now.kept) }
+        ensures sizes { SizesOf self.now.notes self.now.kept.texts (items_asked self.now.kept) }
         ensures since { self.now.kept.marks.since ≤ self.now.kept.next }
         ensures undone { HasUndone self.now.kept }
         ensures places { self.now.kept.marks.places ≡ map (λ (m : ℕ × ThePlace). m.0) self.now.marks }

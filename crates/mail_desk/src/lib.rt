@@ -15,6 +15,7 @@
 
 mod counts;
 mod desk;
+mod founding;
 pub mod laws;
 mod marking;
 mod noting;
@@ -27,6 +28,7 @@ mod texts;
 
 pub use counts::Counts;
 pub use desk::Desk;
+pub use founding::{BaseParts, Founding};
 pub use noting::Fresh;
 pub use ready::Ready;
 pub use remake::{Left, Remade};

@@ -8,12 +8,14 @@ ghost use Rattle.verb_core.specs.Deeds.{is_notice as is_of_notice};
 ghost use Rattle.verb_core.specs.Items.{NumbersApart, text_in};
 ghost use Rattle.shelf.specs.declared.note.Note.{Note as TheNote};
 ghost use Rattle.shelf.specs.Notes.{note_of, same_body};
-ghost use Rattle.mail_desk.specs.Noting.{IsNotedBy, IsNotedIn, Knows, note_by, renoted, rows_by};
+ghost use Rattle.store_kept.specs.Naming.{texts_come};
+ghost use Rattle.mail_desk.specs.Noting.{IsNotedBefore, IsNotedBy, IsNotedIn, Knows, note_by, renoted, rows_before, rows_by};
 ghost use Rattle.mail_desk.specs.Timeline.{NotesText, SizesOf, body_of};
 
 use seal_log::Place;
 use shelf::{Note, Shelf};
 use std::alloc::Global;
+use store_kept::PastText;
 use stored_items::StoredItem;
 use undo_base::NoMemory;
 use verb_core::{Body, Item};
@@ -152,19 +154,64 @@ fn push_bodies(
     Ok(())
 }
 
-/// The bodies of the texts that items bring, others behind them, and more behind those, in the order of the items.
+/// Adds the body of a text of that size that comes with a base.
+fn push_old(rows: &mut NotedBodies, old: &Shelf, body: Body, size: u32) -> Result<(), NoMemory>
+    ensures { OnOk result ((found : TheNote) × (note_of old.now.notes body ≡ Some found) × (found.length ≡ size) × (rows.new.items ≡ rows.old.items ++ (body, found) ∷ [])) }
+{
+    let note = of_length(old.find(body), size)?;
+    match rows.push((body, note)) {
+        Ok(()) => Ok(()),
+        Err(_) => Err(NoMemory),
+    }
+}
+
+/// Adds the body of a text that comes with a base, once it has come.
+fn push_before(
+    rows: &mut NotedBodies,
+    old: &Shelf,
+    row: &(Body, Option<PastText>),
+) -> Result<(), NoMemory>
+    ensures rows { OnOk result (rows.new.items ≡ rows.old.items ++ rows_before old.now.notes (texts_come (row.now ∷ []))) }
+    ensures noted { OnOk result (AllByRecursion (IsNotedBefore old.now.notes) (texts_come (row.now ∷ []))) }
+{
+    match &row.1 {
+        Some(text) => push_old(rows, old, row.0, text.len()),
+        None => Ok(()),
+    }
+}
+
+/// Adds the bodies of the texts that come with a base.
+fn push_all_before(
+    rows: &mut NotedBodies,
+    old: &Shelf,
+    before: &[(Body, Option<PastText>)],
+) -> Result<(), NoMemory>
+    ensures rows { OnOk result (rows.new.items ≡ rows.old.items ++ rows_before old.now.notes (texts_come before.now)) }
+    ensures noted { OnOk result (AllByRecursion (IsNotedBefore old.now.notes) (texts_come before.now)) }
+{
+    for row in before {
+        push_before(rows, old, row)?;
+    }
+    Ok(())
+}
+
+/// The bodies of the texts that come with a base, behind them those of the texts that items bring, others behind them, and more behind
+/// those, in the order of the items.
 fn noted_bodies(
     alloc: Global,
     old: &Shelf,
     fresh: &Fresh,
+    before: &[(Body, Option<PastText>)],
     front: &[StoredItem],
     behind: &[StoredItem],
     later: &[StoredItem],
 ) -> Result<NotedBodies, NoMemory>
-    ensures rows { IfOk result (λ rows. rows.items ≡ rows_by old.now.notes fresh.now ((front.now ++ behind.now) ++ later.now)) }
+    ensures rows { IfOk result (λ rows. rows.items ≡ rows_before old.now.notes (texts_come before.now) ++ rows_by old.now.notes fresh.now ((front.now ++ behind.now) ++ later.now)) }
+    ensures before { OnOk result (AllByRecursion (IsNotedBefore old.now.notes) (texts_come before.now)) }
     ensures noted { OnOk result (AllByRecursion (IsNotedBy old.now.notes fresh.now) ((front.now ++ behind.now) ++ later.now)) }
 {
     let mut rows = Vec::new(alloc);
+    push_all_before(&mut rows, old, before)?;
     push_bodies(&mut rows, old, fresh, front)?;
     push_bodies(&mut rows, old, fresh, behind)?;
     push_bodies(&mut rows, old, fresh, later)?;
@@ -198,23 +245,24 @@ fn shelved(alloc: Global, rows: &[(Body, Note)]) -> Result<Shelf, NoMemory>
     Ok(shelf)
 }
 
-/// Where the texts of all items lie, those of the first ones, of those behind them, and of those that can come back, which lay somewhere
-/// before: where they lay before, or else in a cycle's own record; a notice's text is noted with the record's place, from 0. Where a
+/// Where all texts lie, those that come with a base, those of the first items, of those behind them, and of those that can come back,
+/// which lay somewhere before: where they lay before, or else in a cycle's own record; a notice's text is noted with the record's place, from 0. Where a
 /// note has another length than its text it finds no memory.
 pub(crate) fn noted_anew(
     alloc: Global,
     old: &Shelf,
     fresh: &Fresh,
+    before: &[(Body, Option<PastText>)],
     front: &[StoredItem],
     behind: &[StoredItem],
     later: &[StoredItem],
 ) -> Result<Shelf, NoMemory>
     requires apart { NumbersApart (front.now ++ behind.now) }
     requires noted { AllByRecursion (IsNotedIn old.now.notes) later.now }
-    ensures notes { IfOk result (λ shelf. (body : TheBody) → note_of shelf.notes body ≡ renoted old.now.notes fresh.now ((front.now ++ behind.now) ++ later.now) body) }
-    ensures sizes { IfOk result (λ shelf. SizesOf shelf.notes ((front.now ++ behind.now) ++ later.now)) }
+    ensures notes { IfOk result (λ shelf. (body : TheBody) → note_of shelf.notes body ≡ renoted old.now.notes fresh.now (texts_come before.now) ((front.now ++ behind.now) ++ later.now) body) }
+    ensures sizes { IfOk result (λ shelf. SizesOf shelf.notes (texts_come before.now) ((front.now ++ behind.now) ++ later.now)) }
 {
-    let mut rows = noted_bodies(alloc, old, fresh, front, behind, later)?;
+    let mut rows = noted_bodies(alloc, old, fresh, before, front, behind, later)?;
     sort_bodies(&mut rows);
     shelved(alloc, rows.as_slice())
 }

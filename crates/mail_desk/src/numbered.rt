@@ -1,10 +1,11 @@
 //! Items in order, found by their numbers.
 ghost use Rattle.std.specs.Prelude.{◌≡◌, ◌<◌, ◌≤◌, ℕ, [], ◌∷◌, ◌++◌, ◌+◌, ◌-◌, drop, filter, length, nat_lt, take, OnOk, option_copied, vec_len, vec_capacity};
-ghost use Rattle.std.specs.List.{AllByRecursion};
+ghost use Rattle.std.specs.List.{AllByRecursion, insert};
 ghost use Rattle.std.specs.List.Sorted.{IsNonDecreasingBy, IsPermutation};
 ghost use Rattle.verb_core.specs.declared.item.Item.{Item as TheItem};
 ghost use Rattle.verb_core.specs.Items.{NumbersApart};
-ghost use Rattle.mail_desk.specs.Places.{HasPlaces};
+ghost use Rattle.store_kept.specs.Founding.{has_number};
+ghost use Rattle.mail_desk.specs.Places.{HasPlaces, IsPlaceAmong};
 ghost use Rattle.mail_desk.specs.Timeline.{item_of};
 
 use std::alloc::Global;
@@ -142,6 +143,26 @@ impl Numbered {
         later
     }
 
+    /// Whether there is an item of a number.
+    #[tactic(auto, using(crate::proofs::Indexes::number_found))]
+    pub(crate) fn has(&self, number: u32) -> bool
+        requires { NumbersApart self.now.items }
+        ensures { result ≡ has_number self.now.items number }
+    {
+        self.find(number).is_some()
+    }
+
+    /// Adds an item of whatever number behind the others, for which there is room. It takes no memory.
+    pub(crate) fn put(&mut self, item: StoredItem)
+        requires { 0 < self.old.room }
+        ensures { self.new.items ≡ self.old.items ++ item ∷ [] }
+    {
+        let row = (number_of(&item), self.items.len());
+        let place = place_of(self.places.as_slice(), row.0);
+        insert_within(&mut self.places, place, row);
+        push_within(&mut self.items, item);
+    }
+
     /// Adds an item of a higher number than all before it, for which there is room.
     pub(crate) fn push(&mut self, item: StoredItem)
         requires room { 0 < self.old.room }
@@ -151,6 +172,17 @@ impl Numbered {
         let row = (number_of(&item), self.items.len());
         push_within(&mut self.places, row);
         push_within(&mut self.items, item);
+    }
+}
+
+/// Where the row of a number comes in among rising ones.
+fn place_of(places: &[(u32, usize)], number: u32) -> usize
+    requires { IsNonDecreasingBy (λ (r : ℕ × ℕ). r.0) places.now }
+    ensures { IsPlaceAmong number places.now result }
+{
+    match places.binary_search_by_key(&number, |row| row.0) {
+        Ok(at) => at,
+        Err(at) => at,
     }
 }
 
@@ -218,6 +250,18 @@ pub(crate) fn push_within<T: Drop>(list: &mut Vec<T>, element: T)
     ensures { list.new.items ≡ list.old.items ++ element ∷ [] }
 {
     match list.push(element) {
+        Ok(()) => {}
+        Err(_) => unreachable!(),
+    }
+}
+
+/// Puts an element at a place, where there is room for one.
+fn insert_within<T: Drop>(list: &mut Vec<T>, place: usize, element: T)
+    requires room { vec_len list.old < vec_capacity list.old }
+    requires place { place ≤ vec_len list.old }
+    ensures { list.new.items ≡ insert list.old.items place element }
+{
+    match list.insert(place, element) {
         Ok(()) => {}
         Err(_) => unreachable!(),
     }

@@ -32,7 +32,7 @@ use stored_items::StoredItem;
 use stored_items::laws::{stored_items_are_formed, stored_items_do_alike};
 use undo_base::{NoMemory, User};
 use verb_core::laws::{mail_is_kept, stamps_name_mailboxes, steps_keep_validity};
-use verb_core::{Ask, Item, Refused, Stamps};
+use verb_core::{Ask, Item, Refused, Shown, Stamps};
 
 /// An item that a desk can enter with no memory taken: as it is stored, its effect, and what it changes of the stamps.
 #[derive(Drop)]
@@ -61,7 +61,8 @@ fn new_effect(
 ) -> Result<Effect, NoMemory>
     requires valid { IsValid store.now.store }
     requires formed { IsWellFormed store.now.store.house item.now }
-    ensures { IfOk result (λ effect. applied effect store.now.store ≡ (step_text store.now.store item.now text.now).0) }
+    ensures does { IfOk result (λ effect. applied effect store.now.store ≡ (step_text store.now.store item.now text.now).0) }
+    ensures shows { IfOk result (λ effect. effect.shown ≡ (step_text store.now.store item.now text.now).1) }
 {
     stored_items_are_formed();
     stored_items_do_alike();
@@ -102,6 +103,7 @@ fn ready_effect(
     ensures same { store.new.store ≡ store.old.store }
     ensures ready { IfOk result (λ effect. IsReady effect store.new) }
     ensures does { IfOk result (λ effect. applied effect store.old.store ≡ (step_text store.old.store item.now text.now).0) }
+    ensures shows { IfOk result (λ effect. effect.shown ≡ (step_text store.old.store item.now text.now).1) }
 {
     match new_effect(alloc, store, item, text) {
         Ok(effect) => with_room(alloc, store, effect),
@@ -109,28 +111,49 @@ fn ready_effect(
     }
 }
 
+/// Makes what an item does with its own text, and all room that the store needs for it.
+pub(crate) fn effect_of(
+    alloc: Global,
+    store: &mut Store,
+    item: &Item,
+    stored: &StoredItem,
+) -> Result<Effect, NoMemory>
+    requires same { stored.now ≡ item.now }
+    requires valid { IsValid store.old.store }
+    requires formed { IsWellFormed store.old.store.house item.now }
+    ensures same { store.new.store ≡ store.old.store }
+    ensures ready { IfOk result (λ effect. IsReady effect store.new) }
+    ensures does { IfOk result (λ effect. applied effect store.old.store ≡ (step store.old.store item.now).0) }
+    ensures shows { IfOk result (λ effect. effect.shown ≡ (step store.old.store item.now).1) }
+{
+    stored_items_do_alike();
+    ready_effect(alloc, store, stored, item.deed.text_bytes())
+}
+
 /// Applies an effect over a counter that is made of the blank ledger.
-fn apply_over<L: Ledger>(store: &mut Store, effect: Effect, blank: Blank)
+fn apply_over<L: Ledger>(store: &mut Store, effect: Effect, blank: Blank) -> Shown
     requires name { blank.name ≡ L.name }
     requires parts { blank.parts ≡ L.parts }
     requires some { 0 < blank.parts }
     requires ready { IsReady effect store.old }
-    ensures { store.new.store ≡ applied effect store.old.store }
+    ensures store { store.new.store ≡ applied effect store.old.store }
+    ensures shown { result ≡ effect.shown }
 {
     let mut steps: Steps<L> = Steps::new(blank);
-    let _shown = store.apply(effect, &mut steps);
+    store.apply(effect, &mut steps)
 }
 
 /// Applies an effect, and counts nothing.
-fn apply_alone(store: &mut Store, effect: Effect)
+pub(crate) fn apply_alone(store: &mut Store, effect: Effect) -> Shown
     requires { IsReady effect store.old }
-    ensures { store.new.store ≡ applied effect store.old.store }
+    ensures store { store.new.store ≡ applied effect store.old.store }
+    ensures shown { result ≡ effect.shown }
 {
     apply_over::<Brand>(store, effect, Blank::new(1))
 }
 
 /// Makes room for an item more, and for the note of its text.
-fn make_rooms(timeline: &mut Numbered, shelf: &mut Shelf) -> Result<(), NoMemory>
+pub(crate) fn make_rooms(timeline: &mut Numbered, shelf: &mut Shelf) -> Result<(), NoMemory>
     ensures timeline { timeline.new.items ≡ timeline.old.items }
     ensures shelf { shelf.new.notes ≡ shelf.old.notes }
     ensures marks { shelf.new.marks ≡ shelf.old.marks }
@@ -172,6 +195,7 @@ fn make_parts(
     requires named { map (λ (r : TheBoxId × ℕ). r.0) stamps.now ≡ map (λ (r : TheBoxId × TheMailbox). r.0) store.old.store.boxes }
     ensures store { store.new.store ≡ store.old.store }
     ensures does { IfOk result (λ parts. applied parts.0 store.old.store ≡ (step store.old.store item.now).0) }
+    ensures shows { IfOk result (λ parts. parts.0.shown ≡ (step store.old.store item.now).1) }
     ensures stamps { IfOk result (λ parts. restamped parts.1 stamps.now ≡ stamps_after item.now.number (step store.old.store item.now).0.boxes stamps.now) }
     ensures spare { IfOk result (λ parts. HasSpare parts.1 (length stamps.now)) }
     ensures effect { IfOk result (λ parts. IsReady parts.0 store.new) }
@@ -227,6 +251,7 @@ fn make_beside(
     ensures item { IfOk result (λ ready. ready.item ≡ item) }
     ensures stored { IfOk result (λ ready. ready.stored ≡ item) }
     ensures does { IfOk result (λ ready. applied ready.effect store.old.store ≡ (step store.old.store item).0) }
+    ensures shows { IfOk result (λ ready. ready.effect.shown ≡ (step store.old.store item).1) }
     ensures stamps { IfOk result (λ ready. restamped ready.stamps stamps.now ≡ stamps_after item.number (step store.old.store item).0.boxes stamps.now) }
     ensures spare { IfOk result (λ ready. HasSpare ready.stamps (length stamps.now)) }
     ensures effect { IfOk result (λ ready. IsReady ready.effect store.new) }
@@ -249,6 +274,7 @@ fn make_over(
     ensures item { IfOk result (λ ready. ready.item ≡ item) }
     ensures stored { IfOk result (λ ready. ready.stored ≡ item) }
     ensures does { IfOk result (λ ready. applied ready.effect store.old.store ≡ (step store.old.store item).0) }
+    ensures shows { IfOk result (λ ready. ready.effect.shown ≡ (step store.old.store item).1) }
     ensures stamps { IfOk result (λ ready. restamped ready.stamps stamps.now ≡ stamps_after item.number (step store.old.store item).0.boxes stamps.now) }
     ensures spare { IfOk result (λ ready. HasSpare ready.stamps (length stamps.now)) }
     ensures effect { IfOk result (λ ready. IsReady ready.effect store.new) }
@@ -281,6 +307,7 @@ fn make_ready(
     ensures item { IfOk result (λ ready. ready.item ≡ item) }
     ensures stored { IfOk result (λ ready. ready.stored ≡ item) }
     ensures does { IfOk result (λ ready. applied ready.effect store.old.store ≡ (step store.old.store item).0) }
+    ensures shows { IfOk result (λ ready. ready.effect.shown ≡ (step store.old.store item).1) }
     ensures stamps { IfOk result (λ ready. restamped ready.stamps stamps.now ≡ stamps_after item.number (step store.old.store item).0.boxes stamps.now) }
     ensures spare { IfOk result (λ ready. HasSpare ready.stamps (length stamps.now)) }
     ensures effect { IfOk result (λ ready. IsReady ready.effect store.new) }
@@ -364,6 +391,20 @@ impl Desk {
         ensures notes { NotesText (text_in ready.item.deed) (body_of ready.item) place from self.old.notes self.new.notes }
         ensures marks { self.new.marks ≡ self.old.marks }
     {
+        let (item, shown) = self.enter_shown(ready, place, from);
+        drop(shown);
+        item
+    }
+
+    /// The same, with what the item shows at this store beside it.
+    pub fn enter_shown(&mut self, ready: Ready, place: Place, from: u32) -> (Item, Shown)
+        requires { CanEnter ready self.old }
+        ensures kept { self.new.kept ≡ performed self.old.kept ready.item }
+        ensures item { result.0 ≡ ready.item }
+        ensures shown { result.1 ≡ (step (store_of self.old.kept) ready.item).1 }
+        ensures notes { NotesText (text_in ready.item.deed) (body_of ready.item) place from self.old.notes self.new.notes }
+        ensures marks { self.new.marks ≡ self.old.marks }
+    {
         let Ready {
             item,
             stored,
@@ -374,12 +415,12 @@ impl Desk {
         stamps_name_mailboxes();
         mail_is_kept();
         what_can_come_back_stays();
-        apply_alone(&mut self.store, effect);
+        let shown = apply_alone(&mut self.store, effect);
         change_stamps(&mut self.stamps, stamps);
         note_text(&mut self.shelf, &item, place, from);
         self.timeline.push(stored);
         self.next += 1;
         self.since += 1;
-        item
+        (item, shown)
     }
 }

@@ -17,7 +17,7 @@ use box_store::Store;
 use paradox::Report;
 use shelf::Shelf;
 use std::alloc::Global;
-use store_kept::put_report;
+use store_kept::{Base, put_report};
 use stored_items::{StoredItem, StoredItems};
 use undo_base::{Name, NoMemory};
 use verb_core::Stamps;
@@ -73,6 +73,7 @@ fn later_in<'a>(items: &'a [StoredItem], left: &Left) -> &'a [StoredItem]
 /// Where the texts of all items lie that may be asked for afterwards.
 fn noted_over(
     alloc: Global,
+    base: &Base,
     items: &[StoredItem],
     old: &Shelf,
     fresh: &Fresh,
@@ -82,14 +83,15 @@ fn noted_over(
     requires place { left.now.place ≤ length items.now }
     requires apart { NumbersApart (timeline_left items.now left.now) }
     requires noted { AllByRecursion (IsNotedIn old.now.notes) items.now }
-    ensures notes { IfOk result (λ shelf. (body : TheBody) → note_of shelf.notes body ≡ renoted old.now.notes fresh.now (asked_left items.now left.now) body) }
-    ensures sizes { IfOk result (λ shelf. SizesOf shelf.notes (asked_left items.now left.now)) }
+    ensures notes { IfOk result (λ shelf. (body : TheBody) → note_of shelf.notes body ≡ renoted old.now.notes fresh.now base.now.texts (asked_left items.now left.now) body) }
+    ensures sizes { IfOk result (λ shelf. SizesOf shelf.notes base.now.texts (asked_left items.now left.now)) }
 {
     let later = later_in(items, left);
     noted_anew(
         alloc,
         old,
         fresh,
+        base.texts(),
         items.split_at(left.from).0,
         left.behind.as_slice(),
         later,
@@ -100,6 +102,7 @@ fn noted_over(
 /// afterwards.
 fn noted_with_room(
     alloc: Global,
+    base: &Base,
     reports: &mut Vec<(Name, Report)>,
     timeline: &mut Numbered,
     old: &Shelf,
@@ -114,12 +117,12 @@ fn noted_with_room(
     ensures items { timeline.new.items ≡ timeline.old.items }
     ensures room { OnOk result (vec_len reports.new < vec_capacity reports.new) }
     ensures places { OnOk result (length left.now.behind ≤ timeline.new.room) }
-    ensures notes { IfOk result (λ shelf. (body : TheBody) → note_of shelf.notes body ≡ renoted old.now.notes fresh.now (asked_left timeline.old.items left.now) body) }
-    ensures sizes { IfOk result (λ shelf. SizesOf shelf.notes (asked_left timeline.old.items left.now)) }
+    ensures notes { IfOk result (λ shelf. (body : TheBody) → note_of shelf.notes body ≡ renoted old.now.notes fresh.now base.now.texts (asked_left timeline.old.items left.now) body) }
+    ensures sizes { IfOk result (λ shelf. SizesOf shelf.notes base.now.texts (asked_left timeline.old.items left.now)) }
 {
     reports.reserve(1)?;
     timeline.make_room_for(left.behind.len())?;
-    noted_over(alloc, timeline.as_slice(), old, fresh, left)
+    noted_over(alloc, base, timeline.as_slice(), old, fresh, left)
 }
 
 /// Room for the items behind a place.
@@ -215,6 +218,7 @@ impl Desk {
     {
         let shelf = noted_with_room(
             alloc,
+            &self.base,
             &mut self.reports,
             &mut self.timeline,
             &self.shelf,

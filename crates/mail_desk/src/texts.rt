@@ -1,8 +1,8 @@
 //! The texts that items bring: whether a body has one, where it lies, and a notice's, which is in memory.
 ghost use Rattle.std.specs.Prelude.{◌≡◌, Some, None, List, ℕ, is_some, length, take, option_copied, option_map, if◌then◌else◌};
 ghost use Rattle.verb_core.specs.Items.{NumbersApart};
-ghost use Rattle.mail_desk.specs.Timeline.{has_text, notice_text_of, notice_told_by, noted_of, rev_of, told_by};
-ghost use Rattle.store_kept.specs.Texts.{has_text_among, has_text_kept, text_at_hand, text_kept};
+ghost use Rattle.mail_desk.specs.Timeline.{has_text, memory_told_by, noted_of, rev_of, text_in_memory, told_by};
+ghost use Rattle.store_kept.specs.Texts.{has_text_among, has_text_kept, is_in_memory as is_held, text_at_hand, text_kept};
 
 use crate::Desk;
 use crate::numbered::Numbered;
@@ -22,11 +22,18 @@ fn told(item: &Item, body: Body) -> Option<&Text>
     }
 }
 
-/// The text that an item of the body's number tells of it, if it is a notice.
-fn told_in_memory(item: &StoredItem, body: Body) -> Option<&Text>
-    ensures { option_copied result ≡ notice_told_by body item.now }
+/// Whether an item is a notice that a cycle or a withdrawal of this journal made, where numbers are drawn from the first one on.
+fn is_in_memory(item: &StoredItem, first: u32) -> bool
+    ensures { result ≡ is_held first item.now }
 {
-    if item.is_notice() {
+    item.is_notice() && first <= item.body().origin
+}
+
+/// The text that an item of the body's number tells of it, if it is in memory.
+fn told_in_memory(item: &StoredItem, first: u32, body: Body) -> Option<&Text>
+    ensures { option_copied result ≡ memory_told_by first body item.now }
+{
+    if is_in_memory(item, first) {
         told(item.item(), body)
     } else {
         None
@@ -44,12 +51,12 @@ fn tells(item: &StoredItem, body: Body) -> bool
     }
 }
 
-fn find_notice(timeline: &Numbered, body: Body) -> Option<&Text>
+fn find_notice(timeline: &Numbered, first: u32, body: Body) -> Option<&Text>
     requires { NumbersApart timeline.now.items }
-    ensures { option_copied result ≡ notice_text_of timeline.now.items body }
+    ensures { option_copied result ≡ text_in_memory first timeline.now.items body }
 {
     match timeline.find(body.origin) {
-        Some(item) => told_in_memory(item, body),
+        Some(item) => told_in_memory(item, first, body),
         None => None,
     }
 }
@@ -90,33 +97,33 @@ fn find_rev(timeline: &Numbered, number: u32) -> Option<u32>
 }
 
 impl Desk {
-    /// Whether an item in force brings the text of a body. It takes no memory.
+    /// Whether an item in force brings the text of a body, or it comes with the base. It takes no memory.
     pub fn has_text(&self, body: Body) -> bool
         ensures { result ≡ has_text_kept self.now.kept body }
     {
-        is_told(&self.timeline, body)
+        is_told(&self.timeline, body) || self.base.has_text(body)
     }
 
-    /// Whether one of the first so many items in force brings the text of a body. It takes no memory.
+    /// Whether one of the first so many items in force brings the text of a body, or it comes with the base. It takes no memory.
     pub fn has_text_before(&self, body: Body, place: usize) -> bool
         ensures { result ≡ has_text_among self.now.kept (take place self.now.kept.timeline) body }
     {
-        is_told_before(&self.timeline, body, place)
+        is_told_before(&self.timeline, body, place) || self.base.has_text(body)
     }
 
-    /// The text of a body that a notice in force brings. It takes no memory.
+    /// The text of a body that a notice in force brings, which a cycle or a withdrawal of this journal made. It takes no memory.
     pub fn notice(&self, body: Body) -> Option<&Text>
-        ensures value { option_copied result ≡ notice_text_of self.now.kept.timeline body }
+        ensures value { option_copied result ≡ text_in_memory self.now.kept.first self.now.kept.timeline body }
         ensures told { (text : List ℕ) → option_copied result ≡ Some text → text_kept self.now.kept body ≡ Some text }
     {
-        find_notice(&self.timeline, body)
+        find_notice(&self.timeline, self.base.first(), body)
     }
 
-    /// Where the text of a body lies that has one or can come back, unless a notice in force brings it. It takes no memory.
+    /// Where the text of a body lies that has one or can come back, unless it is in memory. It takes no memory.
     pub fn note(&self, body: Body) -> Option<Note>
-        ensures value { result ≡ noted_of self.now.kept.timeline self.now.notes body }
+        ensures value { result ≡ noted_of self.now.kept.first self.now.kept.timeline self.now.notes body }
         ensures size { option_map (λ note. note.length) result
-            ≡ (if is_some (notice_text_of self.now.kept.timeline body) then None else option_map length (text_at_hand self.now.kept body)) }
+            ≡ (if is_some (text_in_memory self.now.kept.first self.now.kept.timeline body) then None else option_map length (text_at_hand self.now.kept body)) }
     {
         match self.notice(body) {
             Some(_) => None,

@@ -14,7 +14,8 @@ returns-in-Ok-clause-noted g c =
     let bytes = c.args.bytes.now in
     let place : Place = record { gate = c.args.journal.now.gate; length = length bytes } in
     entered_notes (place.gate + 5 + length bytes) place bytes c.args.from old c.enter.new.self item (omega arith) refl
-    (λ text own. let lies = c.requires.lies text (recorded_is item text own) in (lies.within, lies.is))
+    (λ text own. let lies = c.requires.lies text (recorded_is old.kept.first item text own) in (lies.within, lies.is))
     (asked_below old.kept item c.requires.ready.number c.stands.ensures.below c.stands.ensures.undone)
+    (c.stands.ensures.base.beyond item.number (omega (arith, c.requires.ready.number))).unnamed
     c.enter.ensures.kept
     (subst (λ (p : Place). NotesText (text_in item.deed) (body_of item) p c.args.from old.notes c.enter.new.self.notes) c.next_place-place.ensures c.enter.ensures.notes)

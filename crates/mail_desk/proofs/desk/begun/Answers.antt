@@ -18,7 +18,7 @@ invariant_of-result c =
           (ap (λ (h : House). h.first) c.house.ensures.value) c.new.ensures c.new-2.ensures.items c.new-3.ensures.marks))
           (new_desk_holds origin.house origin.opening given.house given.aliases given.filters (subst IsValid (given.store ∙ ap (λ (o : Origin). o.base) given.base) given.valid)
           (c.stamps_name_mailboxes.ensures.opening (opening origin.house origin.opening)));
-      sizes = nothing_known c.new-3.result.notes (c.new.result.items ++ []) c.new-3.ensures.notes (ap (λ (t : List Item). t ++ []) c.new.ensures);
+      sizes = nothing_known c.new-3.result.notes origin.texts (c.new.result.items ++ []) c.new-3.ensures.notes (ap (λ (o : Origin). o.texts) given.base) (ap (λ (t : List Item). t ++ []) c.new.ensures);
     }
 
 pub returns-clause-kept : goal.returns-clause-kept

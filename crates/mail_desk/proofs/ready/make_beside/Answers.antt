@@ -33,3 +33,8 @@ pub returns-clause-effect : goal.returns-clause-effect
 returns-clause-effect c =
     through c.with_parts.result parts_of c.make_parts-parts.result c.with_parts.ensures.parts
     (λ (p : Made). IsReady p.0 c.make_parts-parts.new.store) c.make_parts-parts.ensures.effect
+
+pub returns-clause-shows : goal.returns-clause-shows
+returns-clause-shows c =
+    through c.with_parts.result parts_of c.make_parts-parts.result c.with_parts.ensures.parts
+    (λ (p : Made). p.0.shown ≡ (step c.args.store.now.store c.args.item).1) c.make_parts-parts.ensures.shows

@@ -37,3 +37,12 @@ pub returns-in-Ok-clause-effect : goal.returns-in-Ok-clause-effect
 returns-in-Ok-clause-effect c =
     through c.paired.result (λ (p : Made). p.0) c.ready_effect.result c.paired.ensures.effect
     (λ (e : Effect). IsReady e c.ready_effect.new.store) c.ready_effect.ensures.ready
+
+pub returns-in-Ok-clause-shows : goal.returns-in-Ok-clause-shows
+returns-in-Ok-clause-shows c =
+    let alike : (step_text c.args.store.now.store c.args.stored.now c.text_bytes.result.now).1 ≡ (step c.args.store.now.store c.args.item.now).1 =
+    ap (λ (i : Item). (step_text c.args.store.now.store i c.text_bytes.result.now).1) c.requires.same
+    ∙ ap (λ (after : MailStore × Shown). after.1) (c.stored_items_do_alike.ensures.with_own c.args.store.now.store c.args.item.now c.text_bytes.result.now c.text_bytes.ensures) in
+    through c.paired.result (λ (p : Made). p.0) c.ready_effect.result c.paired.ensures.effect
+    (λ (e : Effect). e.shown ≡ (step c.args.store.now.store c.args.item.now).1)
+    (subst (λ (shown : Shown). IfOk c.ready_effect.result (λ e. e.shown ≡ shown)) alike c.ready_effect.ensures.shows)

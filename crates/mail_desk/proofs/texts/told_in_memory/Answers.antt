@@ -1,15 +1,18 @@
-use Rattle.std.proofs.Common.{None, ap, sym, ◌∙◌, cond}
+use Rattle.std.proofs.Common.{None, ap, nat_le, sym, ◌∙◌, cond}
+use Rattle.std.specs.Cmp.{first_so}
+use Rattle.verb_core.specs.Deeds.{is_notice}
 use Rattle.mail_desk.specs.Timeline.{told_by}
 use Rattle.mail_desk.proofs.BodyTexts.{told_as_kept}
 use Rattle.mail_desk.proofs.texts.told_in_memory.Goals as goal
 
-pub returns-then-is_notice : goal.returns-then-is_notice
-returns-then-is_notice c =
-    let is = sym c.is_notice.ensures ∙ c.if-is_notice.true in
-    c.told.ensures ∙ ap (told_by c.args.body) c.item.ensures ∙ told_as_kept c.args.item.now c.args.body is
+pub returns-then-is_in_memory : goal.returns-then-is_in_memory
+returns-then-is_in_memory c =
+    let is = sym c.is_in_memory.ensures ∙ c.if-is_in_memory.true in
+    c.told.ensures ∙ ap (told_by c.args.body) c.item.ensures
+    ∙ told_as_kept c.args.item.now c.args.body (first_so (is_notice c.args.item.now.deed) (nat_le c.args.first c.args.item.now.number) is)
     ∙ sym (ap (λ b. cond b (told_by c.args.body c.args.item.now) None) is)
 
-pub returns-else-is_notice : goal.returns-else-is_notice
-returns-else-is_notice c =
-    let is = sym c.is_notice.ensures ∙ c.if-is_notice.false in
+pub returns-else-is_in_memory : goal.returns-else-is_in_memory
+returns-else-is_in_memory c =
+    let is = sym c.is_in_memory.ensures ∙ c.if-is_in_memory.false in
     sym (ap (λ b. cond b (told_by c.args.body c.args.item.now) None) is)

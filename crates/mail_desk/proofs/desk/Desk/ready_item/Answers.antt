@@ -2,14 +2,14 @@ use Rattle.std.proofs.Common.{◌≡◌, ◌<◌, ◌++◌, List, IfOk, ap, subs
 use Rattle.verb_core.specs.declared.conf.House.{House}
 use Rattle.verb_core.specs.declared.item.Item.{Item}
 use Rattle.verb_core.specs.declared.mailbox.Body.{Body}
-use Rattle.verb_core.specs.Items.{IsWellFormed, text_of}
+use Rattle.verb_core.specs.Items.{IsWellFormed}
 use Rattle.shelf.specs.declared.note.Note.{Note}
 use Rattle.shelf.specs.Notes.{size_of}
 use Rattle.mail_desk.specs.Desk.{IsDesk}
 use Rattle.mail_desk.specs.Entering.{CanEnter}
 use Rattle.mail_desk.specs.Held.{Held, marks_kept}
 use Rattle.store_kept.specs.Kept.{Kept, kept_from}
-use Rattle.store_kept.specs.Texts.{items_behind}
+use Rattle.store_kept.specs.Texts.{items_behind, text_with}
 use Rattle.mail_desk.proofs.Readied.{can_enter}
 use Rattle.mail_desk.proofs.desk.Desk.ready_item.Goals as goal
 
@@ -26,7 +26,7 @@ invariant_of-self c =
     λ j. kept_from d.base (made.store j) (made.timeline j) d.stamps d.next d.reports.items (marks_kept d.since d.taken (made.marks j)) d.deep d.undone in
     record {
       desk = subst (λ (k : Kept). IsDesk k) (sym same) c.self.invariant.desk;
-      sizes = λ body. ap (λ (n : List (Body × Note)). size_of n body) made.shelf ∙ c.self.invariant.sizes body ∙ ap (λ (t : List Item). option_map length (text_of (t ++ items_behind d.undone) body)) (sym made.timeline);
+      sizes = λ body. ap (λ (n : List (Body × Note)). size_of n body) made.shelf ∙ c.self.invariant.sizes body ∙ ap (λ (t : List Item). option_map length (text_with d.base.texts (t ++ items_behind d.undone) body)) (sym made.timeline);
     }
 
 pub returns-clause-kept : goal.returns-clause-kept
@@ -59,6 +59,7 @@ returns-clause-ready c =
     made.item
     made.stored
     made.does
+    made.shows
     made.stamps
     made.spare
     made.effect

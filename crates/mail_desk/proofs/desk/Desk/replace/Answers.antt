@@ -2,10 +2,9 @@ use Rattle.std.proofs.Common.{◌≡◌, ℕ, ◌+◌, ◌++◌, List, ap, lengt
 use Rattle.std.specs.Prelude.{if◌then◌else◌}
 use Rattle.verb_core.specs.declared.item.Item.{Item}
 use Rattle.verb_core.specs.declared.mailbox.Body.{Body}
-use Rattle.verb_core.specs.Items.{text_of}
 use Rattle.seal_log.specs.declared.place.Place.{Place}
 use Rattle.store_kept.specs.Kept.{Kept, kept_from, not_behind}
-use Rattle.store_kept.specs.Texts.{items_behind}
+use Rattle.store_kept.specs.Texts.{items_behind, text_with}
 use Rattle.shelf.specs.declared.note.Note.{Note}
 use Rattle.shelf.specs.Notes.{size_of}
 use Rattle.mail_desk.specs.Desk.{IsDesk}
@@ -55,7 +54,7 @@ invariant_of-self c =
     record {
       desk = subst (λ (k : Kept). IsDesk k) (sym (left_is c)) can.desk;
       sizes = λ body. ap (λ (n : List (Body × Note)). size_of n body) (c.forget_after.ensures.notes ∙ c.take_notes.ensures.notes) ∙ can.sizes body
-          ∙ sym (λ j. option_map length (text_of (c.go_on-later.ensures.items j ++ items_behind (undone_is c j)) body));
+          ∙ sym (λ j. option_map length (text_with c.self.inside.base.texts (c.go_on-later.ensures.items j ++ items_behind (undone_is c j)) body));
     }
 
 pub returns-clause-kept : goal.returns-clause-kept

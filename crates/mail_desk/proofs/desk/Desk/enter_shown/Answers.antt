@@ -12,7 +12,7 @@ use Rattle.mail_desk.proofs.BodyTexts.{sizes_on}
 use Rattle.mail_desk.proofs.Going.{desk_goes_on}
 use Rattle.mail_desk.proofs.Stampings.{rise_alike}
 use Rattle.mail_desk.proofs.Timelines.{lower, others_below}
-use Rattle.mail_desk.proofs.desk.Desk.enter.Goals as goal
+use Rattle.mail_desk.proofs.desk.Desk.enter_shown.Goals as goal
 
 pub push-requires-clause-higher : goal.push-requires-clause-higher
 push-requires-clause-higher c =
@@ -36,14 +36,14 @@ invariant_of-self c =
     let kept : Kept = kept_from d.base d.store.store d.timeline.items d.stamps d.next d.reports.items (marks_kept d.since d.taken d.shelf.marks) d.deep d.undone in
     let can = subst (λ (h : Held). CanEnter c.args.ready h) (sym c.self.view_is) c.requires in
     let pushed : c.push.new.self.items ≡ d.timeline.items ++ item ∷ [] = c.push.ensures ∙ ap (λ (i : Item). d.timeline.items ++ i ∷ []) can.stored in
-    let stored = c.apply_alone.ensures ∙ can.does in
+    let stored = c.apply_alone-shown.ensures.store ∙ can.does in
     let stamped = c.change_stamps.ensures ∙ can.stamps in
-    let grown : performed kept item ≡ kept_from d.base c.apply_alone.new.store.store c.push.new.self.items c.change_stamps.new.stamps (d.next + 1) d.reports.items (marks_kept (d.since + 1) d.taken c.note_text.new.shelf.marks) d.deep d.undone =
+    let grown : performed kept item ≡ kept_from d.base c.apply_alone-shown.new.store.store c.push.new.self.items c.change_stamps.new.stamps (d.next + 1) d.reports.items (marks_kept (d.since + 1) d.taken c.note_text.new.shelf.marks) d.deep d.undone =
     sym (λ j. kept_from d.base (stored j) (pushed j) (stamped j) (d.next + 1) d.reports.items (marks_kept (d.since + 1) d.taken (c.note_text.ensures.marks j)) d.deep d.undone) in
     record {
       desk = subst (λ (k : Kept). IsDesk k) grown (desk_goes_on c.mail_is_kept.ensures c.steps_keep_validity.ensures.step c.stamps_name_mailboxes.ensures.after c.what_can_come_back_stays.ensures.items kept item desk can.formed can.number can.left);
-      sizes = subst (λ (t : List Item). SizesOf c.note_text.new.shelf.notes (t ++ items_behind d.undone)) (sym pushed)
-          (sizes_on d.timeline.items (items_behind d.undone) item c.args.place c.args.from d.shelf.notes c.note_text.new.shelf.notes (others_below d.next d.timeline.items item desk.below can.number) (text_in item.deed) refl c.note_text.ensures.notes c.self.invariant.sizes);
+      sizes = subst (λ (t : List Item). SizesOf c.note_text.new.shelf.notes d.base.texts (t ++ items_behind d.undone)) (sym pushed)
+          (sizes_on d.timeline.items (items_behind d.undone) item c.args.place c.args.from d.shelf.notes c.note_text.new.shelf.notes (others_below d.next d.timeline.items item desk.below can.number) (text_in item.deed) refl c.note_text.ensures.notes d.base.texts c.self.invariant.sizes);
     }
 
 pub returns-clause-kept : goal.returns-clause-kept
@@ -53,8 +53,8 @@ returns-clause-kept c =
     let kept : Kept = kept_from d.base d.store.store d.timeline.items d.stamps d.next d.reports.items (marks_kept d.since d.taken d.shelf.marks) d.deep d.undone in
     let can = subst (λ (h : Held). CanEnter c.args.ready h) (sym c.self.view_is) c.requires in
     let pushed : c.push.new.self.items ≡ d.timeline.items ++ item ∷ [] = c.push.ensures ∙ ap (λ (i : Item). d.timeline.items ++ i ∷ []) can.stored in
-    let stored = c.apply_alone.ensures ∙ can.does in
+    let stored = c.apply_alone-shown.ensures.store ∙ can.does in
     let stamped = c.change_stamps.ensures ∙ can.stamps in
-    let grown : ◌≡◌ {A = Kept} (kept_from d.base c.apply_alone.new.store.store c.push.new.self.items c.change_stamps.new.stamps (d.next + 1) d.reports.items (marks_kept (d.since + 1) d.taken c.note_text.new.shelf.marks) d.deep d.undone) (performed kept item) =
+    let grown : ◌≡◌ {A = Kept} (kept_from d.base c.apply_alone-shown.new.store.store c.push.new.self.items c.change_stamps.new.stamps (d.next + 1) d.reports.items (marks_kept (d.since + 1) d.taken c.note_text.new.shelf.marks) d.deep d.undone) (performed kept item) =
     λ j. kept_from d.base (stored j) (pushed j) (stamped j) (d.next + 1) d.reports.items (marks_kept (d.since + 1) d.taken (c.note_text.ensures.marks j)) d.deep d.undone in
     grown ∙ ap (λ (h : Held). performed h.kept item) c.self.view_is
