@@ -15,17 +15,31 @@ use Rattle.shelf.specs.Marks.{with_mark}
 use Rattle.mail_desk.specs.Held.{Held}
 use Rattle.mail_desk.specs.Timeline.{NotesText, body_of}
 use Rattle.store_kept.specs.Coming.{HasUndone}
-use Rattle.store_kept.specs.Kept.{Kept}
+use Rattle.store_kept.specs.Bases.{HasBase}
+use Rattle.store_kept.specs.Kept.{BaseTexts, Kept}
+use Rattle.store_kept.specs.Texts.{items_asked}
+use Rattle.shelf.specs.declared.note.Note.{Note}
+use Rattle.verb_core.specs.declared.mailbox.Body.{Body}
 use Rattle.verb_bytes.specs.declared.journal.JournalRecord.TheVariants.{Snapshot}
 use Rattle.verb_bytes.specs.Places.{IsTextAt}
 use Rattle.verb_bytes.specs.Spelling.{HasSpelling, record_bytes}
 use Rattle.desk_journal.specs.Records.{is_formed, is_true, snapshot_record}
-use Rattle.time_desk.specs.Standing.{Enters, kept_as, marked_as}
-use Rattle.desk_journal.specs.Stored.{KeepsMarks, MarkedBefore, MarksLie, NotesTexts}
+use Rattle.time_desk.specs.Standing.{AsksAlike, Enters, kept_as, marked_as}
+use Rattle.desk_journal.specs.Stored.{AllNoted, KeepsMarks, MarkedBefore, MarksLie, NotesTexts}
 use Rattle.desk_journal.proofs.Marking.{marks_entered, marks_kept, marks_snapshotted, marks_with}
 use Rattle.desk_journal.proofs.Truth.{true_is}
 use Rattle.desk_journal.proofs.Noting.{recorded_is}
 use Rattle.desk_journal.proofs.Holding.{asked_below, entered_notes}
+
+-- ---- the same texts
+
+-- where the same texts may be asked for, and are noted where they were, they are noted as they were
+pub noted_alike : (P : Note → List ℕ → Type 0) (old new : Held) → AsksAlike old new → AllNoted old.kept.first P old.notes old.kept.texts (items_asked old.kept) → AllNoted new.kept.first P new.notes new.kept.texts (items_asked new.kept)
+noted_alike P old new is all =
+    subst (λ (first : ℕ). AllNoted first P new.notes new.kept.texts (items_asked new.kept)) (sym is.first)
+    (subst (λ (notes : List (Body × Note)). AllNoted old.kept.first P notes new.kept.texts (items_asked new.kept)) (sym is.notes)
+    (subst (λ (texts : BaseTexts). AllNoted old.kept.first P old.notes texts (items_asked new.kept)) (sym is.texts)
+    (subst (AllNoted old.kept.first P old.notes old.kept.texts) (sym is.items) all)))
 
 -- ---- an item more
 
@@ -33,17 +47,17 @@ use Rattle.desk_journal.proofs.Holding.{asked_below, entered_notes}
 pub entered_record : (gate : ℕ) (place : Place) (bytes : List ℕ) (from : ℕ) (old new : Held) (i : Item) (r : Result Bool NoMemory)
     → place.gate + 5 + place.length ≤ gate → place.length ≡ length bytes
     → ((text : List ℕ) → text_in i.deed ≡ Some text → IsTextAt bytes from text)
-    → AllByRecursion (λ (j : Item). j.number < old.kept.next) old.kept.timeline → HasUndone old.kept
+    → HasBase old.kept → AllByRecursion (λ (j : Item). j.number < old.kept.next) old.kept.timeline → HasUndone old.kept
     → IfOk r (λ stood. Enters old.kept i stood new.kept) → IfOk r (λ stood. stood ≡ true → NotesText (text_in i.deed) (body_of i) place from old.notes new.notes)
     → IfOk r (λ stood. stood ≡ true → NotesTexts gate place bytes old new)
-entered_record gate place bytes from old new i (Ok true) within long stands below undone enters noted =
+entered_record gate place bytes from old new i (Ok true) within long stands base below undone enters noted =
     let same : (i.number == old.kept.next) ≡ true = first_so (i.number == old.kept.next) (nat_lt old.kept.next 4194304) (first_so ((i.number == old.kept.next) && nat_lt old.kept.next 4194304) (is_formed old.kept.house i) enters.0) in
     let number : i.number ≡ old.kept.next = grind (arith, nat_tests) in
     λ e. entered_notes gate place bytes from old new i within long
-    (λ text own. let at : IsTextAt bytes from text = stands text (recorded_is i text own) in (at.within, at.is))
-    (asked_below old.kept i number below undone) enters.1 (noted refl)
-entered_record gate place bytes from old new i (Ok false) within long stands below undone enters noted = λ e. absurd (let wrong : ◌≡◌ {A = Bool} false true = e in cc)
-entered_record gate place bytes from old new i (Err why) within long stands below undone enters noted = tt
+    (λ text own. let at : IsTextAt bytes from text = stands text (recorded_is old.kept.first i text own) in (at.within, at.is))
+    (asked_below old.kept i number below undone) (base.beyond i.number (omega (arith, number))).unnamed enters.1 (noted refl)
+entered_record gate place bytes from old new i (Ok false) within long stands base below undone enters noted = λ e. absurd (let wrong : ◌≡◌ {A = Bool} false true = e in cc)
+entered_record gate place bytes from old new i (Err why) within long stands base below undone enters noted = tt
 
 -- the snapshots stay marked when the item of a record is entered
 pub entered_marks : (gate : ℕ) (place : Place) (bytes : List ℕ) (old new : Held) (i : Item) (r : Result Bool NoMemory)

@@ -1,4 +1,5 @@
 pub mod Telling
+pub mod Delivering
 pub mod Wants
 pub mod Holding
 pub mod Renoting
@@ -7,6 +8,7 @@ pub mod Standings
 pub mod OneWay
 pub mod Surveys
 pub mod Undone
+pub mod Showing
 pub mod Soundness
 pub mod Lasts
 pub mod Servings
@@ -19,3 +21,12 @@ pub mod Marking
 pub mod Messages
 pub mod Accounts
 pub mod States
+pub mod Audits
+pub mod Fronts
+pub mod Founding
+pub mod Settled
+pub mod CutBodies
+pub mod CutStores
+pub mod CutParts
+pub mod Judging
+pub mod Places

@@ -2,7 +2,8 @@
 use Rattle.std.proofs.Common.{◌≡◌, ◌≢◌, ℕ, ◌<◌, ◌≤◌, ◌==◌, Bool, true, false, ◌&&◌, ◌||◌, cond, nat_le, nat_lt, arith, refl, sym, ◌∙◌, ap, subst, List, [], ◌∷◌, map, find, Option, Some, None, option_map, option_and_then, is_some, is_eq, eqb-true, true≢false, unwrap_or}
 use Rattle.std.specs.List.{AllByRecursion, list_all, list_any}
 use Rattle.std.specs.Cmp.{first_so, second_so}
-use Rattle.std.specs.Option.{option_map_or}
+use Rattle.std.specs.Option.{option_map_or, option_or}
+use Rattle.std.specs.Ordering.{eq_by_cmp}
 use Rattle.std.proofs.lemmas.Bool.{ltb-true}
 use Rattle.std.proofs.lemmas.Bool.Decides.{nat_tests}
 use Rattle.undo_base.specs.declared.keys.Key.{Key}
@@ -16,11 +17,11 @@ use Rattle.verb_core.specs.Deeds.{same_body}
 use Rattle.verb_core.specs.Items.{text_in, text_of}
 use Rattle.verb_core.specs.Mailboxes.{same_key, uids_rise}
 use Rattle.verb_core.specs.Store.{IsValid, is_row}
-use Rattle.store_kept.specs.Kept.{Kept, mailbox_at, stamp_at, store_of}
+use Rattle.store_kept.specs.Kept.{BaseTexts, Kept, body_cmp, mailbox_at, stamp_at, store_of}
 use Rattle.repair_desk.specs.Renewals.{extends, extends_one, is_old, same_mail}
 use Rattle.mail_cycle.specs.Permanence.{UidsLast}
-use Rattle.mail_desk.specs.Timeline.{has_text}
-use Rattle.store_kept.specs.Texts.{all_bodies, text_at_hand}
+use Rattle.store_kept.specs.Texts.{all_bodies, has_text_kept, text_at_hand, text_before, text_kept}
+use Rattle.store_kept.proofs.Bodies.{named_then, tied}
 use Rattle.store_kept.proofs.Coming.{kept_at_hand}
 use Rattle.desk_journal.specs.Permanence.{IsSound, Message, RevsBelow, entry_at, message_at, message_of}
 
@@ -152,6 +153,30 @@ text_below (i ∷ t) next body text numbers revs is =
       | false ↦ λ here is. text_below t next body text numbers.1 revs.1 is
     ] refl is
 
+-- so was one of the text that comes with a base
+base_below : (texts : BaseTexts) (next : ℕ) (body : Body) (text : List ℕ) → ((n : ℕ) → next ≤ n → AllByRecursion (λ (r : Body × List ℕ). r.0.origin ≢ n) texts) → AllByRecursion (λ (r : Body × List ℕ). r.0.rev < next) texts
+    → text_before texts body ≡ Some text → (body.origin < next) × (body.rev < next)
+base_below texts next body text new revs is = (number (nat_lt body.origin next) refl, rev texts revs is)
+  where
+    number : (t : Bool) → nat_lt body.origin next ≡ t → body.origin < next
+    number true e = ltb-true body.origin next e
+    number false e = let le : next ≤ body.origin = grind (arith, nat_tests) in absurd (named_then body.origin texts body text (new body.origin le) is refl)
+
+    rev : (ts : BaseTexts) → AllByRecursion (λ (r : Body × List ℕ). r.0.rev < next) ts → text_before ts body ≡ Some text → body.rev < next
+    rev [] all is = absurd (cc is)
+    rev (r ∷ ts) all is = elim (eq_by_cmp body_cmp body r.0) as (λ b. eq_by_cmp body_cmp body r.0 ≡ b → cond b (Some r.1) (text_before ts body) ≡ Some text → body.rev < next) [
+      | true ↦ λ e is. subst (λ (b : Body). b.rev < next) (sym (tied body r.0 e)) all.0
+      | false ↦ λ e is. rev ts all.1 is
+    ] refl is
+
+-- of what is kept
+kept_below : (kept : Kept) (body : Body) (text : List ℕ) → IsSound kept → RevsBelow kept → text_kept kept body ≡ Some text → (body.origin < kept.next) × (body.rev < kept.next)
+kept_below kept body text sound revs is = by (text_of kept.timeline body) refl is
+  where
+    by : (o : Option (List ℕ)) → text_of kept.timeline body ≡ o → option_or o (text_before kept.texts body) ≡ Some text → (body.origin < kept.next) × (body.rev < kept.next)
+    by None e is = base_below kept.texts kept.next body text (λ n le. (sound.base.beyond n le).unnamed) revs.base is
+    by (Some own) e is = text_below kept.timeline kept.next body own sound.below revs.items e
+
 some_of : {A : Type 0} (o : Option A) → is_some o ≡ true → (x : A) × (o ≡ Some x)
 some_of None e = absurd (cc e)
 some_of (Some x) e = (x, refl)
@@ -188,11 +213,12 @@ there kept id stamp uid m is = by_stamp (stamp_at kept id) refl is
     by_stamp (Some n) stamped is = by_test n (n == stamp) refl stamped is
 
 -- the entry has a text
-pub text_there : (t : List Item) (boxes : List (BoxId × Mailbox)) (id : BoxId) (uid : ℕ) (box : Mailbox) (e : Entry) → all_bodies (has_text t) boxes ≡ true → row_at id boxes ≡ Some box
-    → find (λ (x : Entry). x.uid == uid) box.entries ≡ Some e → (text : List ℕ) × (text_of t e.body ≡ Some text)
-text_there t boxes id uid box e texts here found =
-    some_of (text_of t e.body) (row_has (λ (r : BoxId × Mailbox). list_all (λ (x : Entry). has_text t x.body) r.1.entries) (λ (m : Mailbox). find (λ (x : Entry). x.uid == uid) m.entries ≡ Some e → has_text t e.body ≡ true)
-    (λ r all at. found_among (λ (x : Entry). x.uid == uid) (λ (x : Entry). has_text t x.body) r.1.entries e all at) boxes id box texts here found)
+pub text_there : (kept : Kept) (boxes : List (BoxId × Mailbox)) (id : BoxId) (uid : ℕ) (box : Mailbox) (e : Entry) → all_bodies (has_text_kept kept) boxes ≡ true → row_at id boxes ≡ Some box
+    → find (λ (x : Entry). x.uid == uid) box.entries ≡ Some e → (text : List ℕ) × (text_kept kept e.body ≡ Some text)
+text_there kept boxes id uid box e texts here found =
+    some_of (text_kept kept e.body)
+    (row_has (λ (r : BoxId × Mailbox). list_all (λ (x : Entry). has_text_kept kept x.body) r.1.entries) (λ (m : Mailbox). find (λ (x : Entry). x.uid == uid) m.entries ≡ Some e → has_text_kept kept e.body ≡ true)
+    (λ r all at. found_among (λ (x : Entry). x.uid == uid) (λ (x : Entry). has_text_kept kept x.body) r.1.entries e all at) boxes id box texts here found)
 
 -- it is the same mail under the same UID
 same_entry : (a b : Mailbox) (uid : ℕ) (e f : Entry) → uids_rise 0 a.entries a.next ≡ true → extends a b ≡ true → find (λ (x : Entry). x.uid == uid) a.entries ≡ Some e → find (λ (x : Entry). x.uid == uid) b.entries ≡ Some f → same_mail f e ≡ true
@@ -205,9 +231,9 @@ same_entry a b uid e f rise ext first second =
     same_found 0 a.entries a.next uid f e rise also first (ap (λ (v : Bool). v || list_any (same_mail f) a.entries) (sym under_next) ∙ old)
 
 -- one message, where UIDs last
-pub one_message : (a b : Kept) (id : BoxId) (stamp uid : ℕ) (m n : Message) → IsSound a → RevsBelow a → IsValid (store_of a) → all_bodies (has_text a.timeline) (store_of a).boxes ≡ true → all_bodies (has_text b.timeline) (store_of b).boxes ≡ true
+pub one_message : (a b : Kept) (id : BoxId) (stamp uid : ℕ) (m n : Message) → IsSound a → RevsBelow a → IsValid (store_of a) → IsSound b → all_bodies (has_text_kept a) (store_of a).boxes ≡ true → all_bodies (has_text_kept b) (store_of b).boxes ≡ true
     → UidsLast a b → message_at a id stamp uid ≡ Some m → message_at b id stamp uid ≡ Some n → m ≡ n
-one_message a b id stamp uid m n sound revs valid texts_a texts_b lasts first second =
+one_message a b id stamp uid m n sound revs valid later texts_a texts_b lasts first second =
     let old = there a id stamp uid m first in
     let new = there b id stamp uid n second in
     let low : stamp < a.next = stamp_below a.stamps a.next id stamp sound.fresh old.stamped in
@@ -216,10 +242,10 @@ one_message a b id stamp uid m n sound revs valid texts_a texts_b lasts first se
     let same : same_mail new.entry old.entry ≡ true = same_entry old.box new.box uid old.entry new.entry rise ext old.found new.found in
     let key : new.entry.key ≡ old.entry.key = one_key new.entry.key old.entry.key (second_so (new.entry.uid == old.entry.uid) (same_key new.entry.key old.entry.key) (first_so _ (same_body new.entry.body old.entry.body) same)) in
     let body : new.entry.body ≡ old.entry.body = one_body new.entry.body old.entry.body (second_so _ (same_body new.entry.body old.entry.body) same) in
-    let had = text_there a.timeline (store_of a).boxes id uid old.box old.entry texts_a old.there old.found in
-    let has = text_there b.timeline (store_of b).boxes id uid new.box new.entry texts_b new.there new.found in
-    let given = text_below a.timeline a.next old.entry.body had.0 sound.below revs had.1 in
-    let at_hand : text_at_hand a old.entry.body ≡ Some has.0 = lasts.texts old.entry.body has.0 given.0 given.1 (kept_at_hand b old.entry.body has.0 (ap (text_of b.timeline) (sym body) ∙ has.1)) in
-    let kept : text_of a.timeline old.entry.body ≡ Some has.0 = had.1 ∙ sym (kept_at_hand a old.entry.body had.0 had.1) ∙ at_hand in
-    let text : text_of a.timeline old.entry.body ≡ text_of b.timeline new.entry.body = kept ∙ sym has.1 in
+    let had = text_there a (store_of a).boxes id uid old.box old.entry texts_a old.there old.found in
+    let has = text_there b (store_of b).boxes id uid new.box new.entry texts_b new.there new.found in
+    let given = kept_below a old.entry.body had.0 sound revs had.1 in
+    let at_hand : text_at_hand a old.entry.body ≡ Some has.0 = lasts.texts old.entry.body has.0 given.0 given.1 (kept_at_hand b old.entry.body has.0 later.undone (ap (text_kept b) (sym body) ∙ has.1)) in
+    let kept : text_kept a old.entry.body ≡ Some has.0 = had.1 ∙ sym (kept_at_hand a old.entry.body had.0 sound.undone had.1) ∙ at_hand in
+    let text : text_kept a old.entry.body ≡ text_kept b new.entry.body = kept ∙ sym has.1 in
     sym old.is ∙ (λ j. record { key = sym key j; text = text j }) ∙ new.is

@@ -16,7 +16,6 @@ use Rattle.verb_core.specs.declared.item.Item.{Item}
 use Rattle.verb_core.specs.declared.item.Shown.{Shown}
 use Rattle.verb_core.specs.declared.mailbox.BoxId.{BoxId}
 use Rattle.verb_core.specs.declared.mailbox.Mailbox.{Mailbox}
-use Rattle.verb_core.specs.Fates.{IsBase, IsFresh as IsNewTo}
 use Rattle.verb_core.specs.Items.{IsTimeline, IsWellFormed, NumbersApart}
 use Rattle.verb_core.specs.Step.{run}
 use Rattle.verb_core.specs.Store.{IsValid, MailStore}
@@ -26,10 +25,10 @@ use Rattle.verb_bytes.specs.declared.journal.JournalRecord.TheVariants.{Cycle}
 use Rattle.verb_bytes.specs.Spelling.{record_bytes}
 use Rattle.paradox.specs.Letters.{notices}
 use Rattle.paradox.specs.declared.reports.Report.{Report}
-use Rattle.store_kept.specs.Bases.{HasBase}
+use Rattle.store_kept.specs.Bases.{HasBase, IsNew, StandsOn}
 use Rattle.store_kept.specs.Coming.{HasUndone}
-use Rattle.store_kept.specs.Kept.{IsRun, Kept, newest_at, report_of, rewound, with_report}
-use Rattle.store_kept.specs.Texts.{all_bodies, items_asked}
+use Rattle.store_kept.specs.Kept.{BaseTexts, IsRun, Kept, newest_at, origin_of, report_of, rewound, with_report}
+use Rattle.store_kept.specs.Texts.{all_bodies, has_text_among, has_text_with, items_asked}
 use Rattle.shelf.specs.Marks.{marks_at_or_before}
 use Rattle.stored_items.specs.Stored.{AllHeard}
 use Rattle.repair_desk.specs.Repairs.{are_known, position}
@@ -57,7 +56,7 @@ use Rattle.time_desk.specs.declared.fault.CycleFault.TheVariants as cycle_faults
 use Rattle.time_desk.specs.Cycling.{CanBeUndone, CanRework, Cycles, CyclesAs, CyclesBy, CyclesNone, IsCycleOutcomeOf, IsCycled, IsFit, IsTold, Redoes, RedoesCause, RedoesCycle, RenotesAs, Reworks, StarvesBy, Tries, TriesNone, after_rewound, asked_then, most_begun, most_reworked, most_tried}
 use Rattle.time_desk.specs.Planning.{BodiesCause}
 use Rattle.mail_desk.specs.Held.{Held}
-use Rattle.mail_desk.specs.Timeline.{SizesOf, has_text}
+use Rattle.mail_desk.specs.Timeline.{SizesOf}
 use Rattle.seal_log.specs.declared.log.Log.{Log}
 use Rattle.desk_journal.specs.Lasting.{JournalTold, Lasting, PastTold, journal_of, lasting}
 use Rattle.desk_journal.specs.declared.read_texts.Reading.{Reading}
@@ -83,9 +82,9 @@ use Rattle.desk_journal.proofs.Truth.{cycle_true}
 
 -- ---- what a cycle leaves in memory
 
--- where each body of a store has a text in a front, each body of what items lead to has one in the front and these items
+-- where each body of a store has a text in a front, or with a base, each body of what items lead to has one in the front and these items, or with the base
 abbrev pub BodiesOn : Type 0
-BodiesOn = (base : MailStore) (front t : List Item) → IsValid base → AllByRecursion (IsWellFormed base.house) t → IsTrue (all_bodies (has_text front) base.boxes) → IsTrue (all_bodies (has_text (front ++ t)) (run base t).boxes)
+BodiesOn = (texts : BaseTexts) (base : MailStore) (front t : List Item) → IsValid base → AllByRecursion (IsWellFormed base.house) t → IsTrue (all_bodies (has_text_with texts front) base.boxes) → IsTrue (all_bodies (has_text_with texts (front ++ t)) (run base t).boxes)
 
 -- what is left can be put in place
 module _ (kept : Kept) (at : ℕ) (repair : Repair) (first : MailStore) (count : ℕ) (heard : List Item) (made : Rewound) where
@@ -99,14 +98,14 @@ module _ (kept : Kept) (at : ℕ) (repair : Repair) (first : MailStore) (count :
     from = subst (λ (n : ℕ). n ≤ made.place) (sym stays) (subst (λ (n : ℕ). count ≤ n) (sym leaves.place) few);
     place = subst (λ (n : ℕ). n ≤ length kept.timeline) (sym leaves.place) within;
     house = ap (λ (s : MailStore). s.house) leaves.store ∙ run_house first (drop count Timeline) ∙ serves.house;
-    texts = subst (λ (t : List Item). IsTrue (all_bodies (has_text t) made.store.store.boxes)) (sym leaves.timeline)
-        (subst (λ (s : MailStore). IsTrue (all_bodies (has_text Timeline) s.boxes)) (sym leaves.store)
-        (subst (λ (t : List Item). IsTrue (all_bodies (has_text t) (run first (drop count Timeline)).boxes)) (take-append-drop count Timeline)
-        (bodies first (take count Timeline) (drop count Timeline) serves.valid
+    texts = subst (λ (t : List Item). IsTrue (all_bodies (has_text_among kept t) made.store.store.boxes)) (sym leaves.timeline)
+        (subst (λ (s : MailStore). IsTrue (all_bodies (has_text_among kept Timeline) s.boxes)) (sym leaves.store)
+        (subst (λ (t : List Item). IsTrue (all_bodies (has_text_among kept t) (run first (drop count Timeline)).boxes)) (take-append-drop count Timeline)
+        (bodies kept.texts first (take count Timeline) (drop count Timeline) serves.valid
         (subst (λ h. AllByRecursion (IsWellFormed h) (drop count Timeline)) (sym serves.house) (rest_of (IsWellFormed kept.house) count Timeline goes.timeline.formed))
-        (subst (λ (t : List Item). IsTrue (all_bodies (has_text t) first.boxes)) (sym front) serves.texts))));
+        (subst (λ (t : List Item). IsTrue (all_bodies (has_text_among kept t) first.boxes)) (sym front) serves.texts))));
     valid = leaves.valid;
-    base = subst (λ (t : List Item). IsBase t kept.base) (sym leaves.timeline) (goes.base base);
+    base = subst (StandsOn (origin_of kept)) (sym leaves.timeline) (goes.base base);
     timeline = subst (IsTimeline kept.house) (sym leaves.timeline) goes.timeline;
     below = subst (λ (n : ℕ). AllByRecursion (λ (i : Item). i.number < n) (items_left kept.timeline made)) (sym leaves.next)
         (subst (AllByRecursion (λ (i : Item). i.number < (reworked_from kept at repair first count heard).next)) (sym leaves.timeline) goes.below);
@@ -399,15 +398,15 @@ cycle_through {D = D} told held at ask old past new log before after result is r
 -- ---- the notes that it leaves
 
 pub cycle_notes : (gate next : ℕ) (before after : Held) (at : ℕ) (ask : CycleAsk) (told : Type 0) (made : Rewound) (bytes : List ℕ) → next ≡ gate + 5 + length bytes → bytes ≡ record_bytes (Cycle before.kept.next at ask)
-    → IsCycled before.kept at ask told made → IsFit before.kept made → items_asked after.kept ≡ asked_then before.kept true made
-    → SizesOf before.notes (items_asked before.kept) → NumbersApart before.kept.timeline → AllByRecursion (λ (i : Item). i.number < before.kept.next) before.kept.timeline → HasUndone before.kept
-    → RenotesAs before ask at (record { gate = gate; length = length bytes }) made after.notes → SizesOf after.notes (asked_then before.kept true made)
+    → IsCycled before.kept at ask told made → IsFit before.kept made → (key : List ℕ) → after.kept ≡ after_rewound before.kept key true made
+    → SizesOf before.notes before.kept.texts (items_asked before.kept) → HasBase before.kept → NumbersApart before.kept.timeline → AllByRecursion (λ (i : Item). i.number < before.kept.next) before.kept.timeline → HasUndone before.kept
+    → RenotesAs before ask at (record { gate = gate; length = length bytes }) made after.notes → SizesOf after.notes before.kept.texts (asked_then before.kept true made)
     → TextsNoted gate before.notes before.kept → TextsNoted next after.notes after.kept
-cycle_notes gate next before after at ask told made bytes next_is bytes_are is fit put sizes apart below comes renotes sizes' noted =
+cycle_notes gate next before after at ask told made bytes next_is bytes_are is fit key put sizes base apart below comes renotes sizes' noted =
     let where_ : Place = record { gate = gate; length = length bytes } in
     put_noted before after at ask told made where_ bytes renotes.fresh (subst (λ (b : List ℕ). IsFresh before.kept.next at ask where_ b renotes.fresh) (sym bytes_are) renotes.is_fresh)
-    is fit.timeline.apart put sizes apart below comes renotes.renotes next (omega (arith, next_is)) refl sizes'
-    (noted_later gate next before.notes (items_asked before.kept) (omega (arith, next_is)) noted)
+    is fit.timeline.apart key put sizes base apart below comes renotes.renotes next (omega (arith, next_is)) refl sizes'
+    (noted_later gate next before.notes before.kept (omega (arith, next_is)) noted)
 
 -- what was found is noted at the place of its own bytes
 pub found_there : {T W : Type 0} (result : Result T W) (Q : Place → T → Type 0) (bytes_in : T → List ℕ) (place : Place) (gate : ℕ) (bytes : List ℕ) → place ≡ record { gate = gate; length = length bytes }
@@ -448,10 +447,10 @@ after_withdrawal_is kept key due made leaves = λ j. record kept {
 }
 
 -- what the cycle leaves to be withdrawn can come back, whatever was read
-pub can_be_undone : (kept : Kept) (at : ℕ) (ask : CycleAsk) (honest : Type 0) (made : Rewound) (is : IsCycled kept at ask honest made) → kept.next < made.next → AllByRecursion (λ (i : Item). IsNewTo i.number kept.base) kept.timeline
+pub can_be_undone : (kept : Kept) (at : ℕ) (ask : CycleAsk) (honest : Type 0) (made : Rewound) (is : IsCycled kept at ask honest made) → kept.next < made.next → AllByRecursion (λ (i : Item). IsNew (origin_of kept) i.number) kept.timeline
     → CanComeBack kept.house (timeline_by kept at (repair_of kept at ask is.place) is.is_made.made_from.heard (shown_made kept at ask honest made is)) (undone_at kept ask is.place (length (repaired_items kept at ask is.place)))
     → CanBeUndone kept true made
-can_be_undone kept at ask honest made is rises fresh back =
+can_be_undone kept at ask honest made is rises new back =
     let leaves = is.is_made.made_from.leaves in
     let last : UndoneBehind = record { cycle = made.report.cycle; point = made.report.point; later = drop made.place kept.timeline; position = made.place; placed = made.placed } in
     let last_is : undone_at kept ask is.place (length (repaired_items kept at ask is.place)) ≡ last = λ j. record {
@@ -464,7 +463,7 @@ can_be_undone kept at ask honest made is rises fresh back =
     record {
       cycle = subst (λ (r : Report). r.cycle < made.next) (sym leaves.report) rises;
       back = subst (CanComeBack kept.house (items_left kept.timeline made)) last_is (subst (λ (t : List Item). CanComeBack kept.house t (undone_at kept ask is.place (length (repaired_items kept at ask is.place)))) (sym (made_timeline kept at ask honest made is)) back);
-      fresh = rest_of (λ (i : Item). IsNewTo i.number kept.base) made.place kept.timeline fresh;
+      new = rest_of (λ (i : Item). IsNew (origin_of kept) i.number) made.place kept.timeline new;
     }
 
 -- as what stood behind the point of any cycle can
@@ -478,7 +477,7 @@ pub comes_back : ComesBack → (kept : Kept) (at : ℕ) (ask : CycleAsk) (honest
     → AllByRecursion (λ (i : Item). i.number < kept.next) kept.timeline → CanBeUndone kept true made
 comes_back law kept at ask honest made is fit base timeline below =
     let now = shown_made kept at ask honest made is in
-    can_be_undone kept at ask honest made is (omega (arith, fit.rises)) base.stands.fresh
+    can_be_undone kept at ask honest made is (omega (arith, fit.rises)) base.new
     (law kept at ask is.place is.is_made.made_from.heard now (notices kept.house kept.next at (broken_by (repair_of kept at ask is.place) now)) is.is_made.place timeline below is.is_made.made_from.all
     (subst (IsTimeline kept.house) (made_timeline kept at ask honest made is) fit.timeline))
 
@@ -614,7 +613,7 @@ module _ {D : Type 0} (told : D → DiskTold) (disk : D) (before after : Held) (
     due_record = record_is before.kept at ask (cycled_at before.kept at ask red.is_made.place) bytes anew red.is_made.due bytes_are spelled known
 
     -- its record was sealed, and what it leaves was put in place
-    pub cycle_sealed : SealsPayloads (bytes ∷ []) [] (told old.disk) (told new.disk) old.gate new.gate → new.closed ≡ false → (IsRun before.kept → IsSound before.kept) → SizesOf before.notes (items_asked before.kept) → IsFit before.kept made
+    pub cycle_sealed : SealsPayloads (bytes ∷ []) [] (told old.disk) (told new.disk) old.gate new.gate → new.closed ≡ false → (IsRun before.kept → IsSound before.kept) → SizesOf before.notes before.kept.texts (items_asked before.kept) → IsFit before.kept made
         → after.kept ≡ after_rewound before.kept ask.key true made → after.marks ≡ marks_at_or_before made.place before.marks → RenotesAs before ask at (record { gate = old.gate; length = length bytes }) made after.notes
         → Seals told (Cycle before.kept.next at ask ∷ []) [] First (lasting after new)
     cycle_sealed seals still sound sizes fit kept_is marks_are renotes =
@@ -635,7 +634,7 @@ module _ {D : Type 0} (told : D → DiskTold) (disk : D) (before after : Held) (
             let where_ : Place = record { gate = old.gate; length = length bytes } in
             let whole = sound holds.texts.runs in
             put_lies before after at ask (HoldsTexts told First) made where_ bytes renotes.fresh (subst (λ (b : List ℕ). IsFresh before.kept.next at ask where_ b renotes.fresh) (sym bytes_are) renotes.is_fresh)
-            red.is_made fit.timeline.apart (ap items_asked kept_is) sizes whole.timeline.apart whole.below whole.undone renotes.renotes payloads at_place holds holds.texts.revs holds.texts.back all
+            red.is_made fit.timeline.apart ask.key kept_is sizes whole.base whole.timeline.apart whole.below whole.undone renotes.renotes payloads at_place holds holds.texts.revs holds.texts.back all
 
     -- it was not
     pub cycle_unsealed : {X : Type 0} (fault : SealFault) (out : CycleFault) → SealsBytes {X = X} told bytes old new (Err fault) → (told old.disk).failed_reads ≡ (told disk).failed_reads → after.kept ≡ before.kept → after.notes ≡ before.notes → after.marks ≡ before.marks → IsCycleOutcomeOf fault out

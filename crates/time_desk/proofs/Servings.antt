@@ -1,5 +1,5 @@
 -- What a cycle begins with.
-use Rattle.std.proofs.Common.{◌≡◌, inr, ℕ, zero, suc, ◌+◌, ◌-◌, ◌<◌, ◌≤◌, ◌&&◌, Bool, true, false, cond, nat_le, List, [], ◌∷◌, ◌++◌, length, map, take, drop, get_or, Option, Some, None, Result, Ok, Err, IfOk, arith, refl, sym, ap, ap₂, subst, ◌∙◌, slice_get}
+use Rattle.std.proofs.Common.{◌≡◌, inr, ℕ, zero, suc, ◌+◌, ◌-◌, ◌<◌, ◌≤◌, ◌&&◌, Bool, true, false, cond, nat_le, List, [], ◌∷◌, ◌++◌, length, map, take, drop, get_or, Option, Some, None, Result, Ok, Err, IfOk, arith, refl, sym, ap, ap₂, subst, ◌∙◌, slice_get, true≢false}
 use Rattle.std.specs.Prelude.{IfSome, IsTrue, option_and_then, option_map, slice_index_or}
 use Rattle.std.specs.List.{AllByRecursion, slice_range}
 use Rattle.std.proofs.lemmas.Bool.{eq-eqb}
@@ -21,12 +21,12 @@ use Rattle.verb_bytes.specs.Spelling.{Spells}
 use Rattle.box_store.specs.Making.{makes_store, store_of_rows}
 use Rattle.mail_desk.specs.Held.{Held}
 use Rattle.mail_cycle.specs.declared.beginning.Beginning.{Beginning}
-use Rattle.mail_desk.specs.Timeline.{has_text}
 use Rattle.store_kept.specs.Bases.{HasBase}
-use Rattle.store_kept.specs.Texts.{all_bodies, has_text_among}
-use Rattle.store_kept.specs.Kept.{Kept, not_behind}
+use Rattle.store_kept.specs.Texts.{all_bodies, has_text_among, has_text_with}
+use Rattle.store_kept.specs.Kept.{BaseTexts, Kept, not_behind}
 use Rattle.repair_desk.proofs.Everywhere.{taken}
 use Rattle.time_desk.specs.Serving.{BeginsBy, CanServe, FindsLast, IsLastToServe, IsNewest, NoneServes, Serves, ServesBy, bytes_at, can_serve, store_from, store_in}
+use Rattle.time_desk.specs.Replaying.{some_marked, some_of}
 use Rattle.desk_journal.specs.Stored.{snapshot_at, store_at}
 
 abbrev pub Mark : Type 0
@@ -41,7 +41,7 @@ run_valid law base (i ∷ t) valid formed = run_valid law (step base i).0 t (law
 -- the store that the first items left
 pub front_serves : ((s : MailStore) (i : Item) → IsValid s → IsWellFormed s.house i → IsValid (step s i).0)
     → (kept : Kept) (count : ℕ) → HasBase kept
-    → ((base : MailStore) (t : List Item) → IsValid base → AllByRecursion (IsWellFormed base.house) t → IsTrue (all_bodies (has_text t) base.boxes) → IsTrue (all_bodies (has_text t) (run base t).boxes))
+    → ((texts : BaseTexts) (base : MailStore) (t : List Item) → IsValid base → AllByRecursion (IsWellFormed base.house) t → IsTrue (all_bodies (has_text_with texts t) base.boxes) → IsTrue (all_bodies (has_text_with texts t) (run base t).boxes))
     → ((kept : Kept) (items : List Item) → HasBase kept → IsTrue (all_bodies (has_text_among kept items) kept.base.boxes))
     → CanServe kept count (store_at kept count)
 front_serves law kept count base texts known =
@@ -50,7 +50,7 @@ front_serves law kept count base texts known =
     record {
       valid = run_valid law kept.base items base.stands.valid front;
       house = run_house kept.base items ∙ base.house_is;
-      texts = texts kept.base items base.stands.valid front (known kept items base);
+      texts = texts kept.texts kept.base items base.stands.valid front (known kept items base);
     }
 
 -- a store is made of its own rows
@@ -155,6 +155,22 @@ module _ (kept : Kept) (place : ℕ) (marks ms : List Mark) (places : kept.marks
         count = count ∙ sym (ap (λ (ps : List ℕ). get_or ps (length ps - 1) 0) (counts_are ∙ ap (map (λ (m : Mark). m.0)) none));
         store = store ∙ ap (λ (n : ℕ). store_at kept n) (sym count);
       }
+
+-- two things of what was made
+pub both_ok : {X E : Type 0} (result : Result X E) (P Q : X → Type 0) → IfOk result P → IfOk result Q → IfOk result (λ x. P x × Q x)
+both_ok (Ok x) P Q p q = (p, q)
+both_ok (Err e) P Q p q = tt
+
+-- where none is marked at or before a place, none is at hand there
+pub unmarked_none : (kept : Kept) (place : ℕ) (ms : List Mark) → map (λ (m : Mark). m.0) ms ≡ not_behind place kept.marks.places → some_marked kept place ≡ false → ms ≡ []
+unmarked_none kept place [] counts none = refl
+unmarked_none kept place (m ∷ ms) counts none =
+    absurd (true≢false (ap (λ (ps : List ℕ). some_of ps) counts ∙ none))
+
+-- and where one is, one is marked there
+pub marked_due : (kept : Kept) (place : ℕ) (ms : List Mark) → map (λ (m : Mark). m.0) ms ≡ not_behind place kept.marks.places → (ms ≡ [] → ⊥) → some_marked kept place ≡ true
+marked_due kept place [] counts some = absurd (some refl)
+marked_due kept place (m ∷ ms) counts some = sym (ap (λ (ps : List ℕ). some_of ps) counts)
 
 -- the store before the first item serves
 pub serves_first : {E : Type 0} (kept : Kept) (place : ℕ) (result : Result Beginning E) → IfOk result (λ first. first.count ≡ 0) → IfOk result (λ first. CanServe kept 0 first.store.store) → IfOk result (Serves kept place)

@@ -1,10 +1,11 @@
 -- What holds of all that records leave, and what lasts from one of them to a later one.
-use Rattle.std.proofs.Common.{◌≡◌, ℕ, ◌+◌, ◌-◌, ◌<◌, ◌≤◌, ◌==◌, Bool, true, false, ◌&&◌, ◌||◌, cond, nat_le, nat_lt, arith, refl, ap, sym, subst, List, ◌∷◌, length, map, Option, Some, None, is_some, is_eq, eqb-true, unwrap_or, option_and_then, []}
+use Rattle.std.proofs.Common.{◌≡◌, ℕ, ◌+◌, ◌-◌, ◌<◌, ◌≤◌, ◌==◌, Bool, true, false, ◌&&◌, ◌||◌, cond, nat_le, nat_lt, arith, refl, ap, sym, subst, ◌∙◌, not, List, ◌∷◌, length, map, Option, Some, None, is_some, is_eq, eqb-true, unwrap_or, option_and_then, []}
 use Rattle.std.specs.List.{AllByRecursion, list_all, list_any, cons_option}
 use Rattle.std.proofs.lemmas.Bool.{and_parts, leb-true}
 use Rattle.verb_core.specs.declared.conf.Conf.{Conf}
 use Rattle.verb_core.specs.declared.conf.House.{House}
 use Rattle.verb_core.specs.declared.item.Item.{Item}
+use Rattle.verb_core.specs.declared.mailbox.Body.{Body}
 use Rattle.verb_core.specs.declared.mailbox.BoxId.{BoxId}
 use Rattle.verb_core.specs.declared.mailbox.Mailbox.{Mailbox}
 use Rattle.verb_core.specs.Boxes.{box_cmp, row_at}
@@ -13,7 +14,7 @@ use Rattle.verb_core.specs.Items.{IsWellFormed, has_form, is_own, keys_in, users
 use Rattle.verb_core.specs.Stamps.{stamps_after}
 use Rattle.verb_core.specs.Step.{Boxes, step}
 use Rattle.verb_core.specs.Store.{is_house, is_known, opening}
-use Rattle.verb_core.proofs.StampLaws.{after-ids, opening-ids}
+use Rattle.verb_core.proofs.StampLaws.{after-ids}
 use Rattle.verb_bytes.specs.declared.journal.CycleAsk.{CycleAsk}
 use Rattle.verb_bytes.specs.declared.journal.JournalRecord.{JournalRecord}
 use Rattle.verb_bytes.specs.declared.journal.JournalRecord.TheVariants.{Format, Verb, Operator, Cycle, Snapshot, Upgrade, Withdraw}
@@ -21,7 +22,7 @@ use Rattle.verb_bytes.specs.Spelling.{HasSpelling}
 use Rattle.paradox.specs.declared.reports.Report.{Report}
 use Rattle.withdraw.specs.declared.undone.UndoneBehind.{UndoneBehind}
 use Rattle.store_kept.specs.Coming.{Comes, ComesIf, HasUndoneTexts, TextsComeIf}
-use Rattle.store_kept.specs.Kept.{Kept, Marks, marked, new_desk, passed, performed, report_of, snapshotted, store_of, undone_of, upgraded}
+use Rattle.store_kept.specs.Kept.{BaseTexts, Kept, Marks, marked, new_desk, origin_of, passed, performed, report_of, snapshotted, store_of, undone_of, upgraded}
 use Rattle.store_kept.proofs.Coming.{comes_on, texts_on}
 use Rattle.repair_desk.specs.Repairs.{are_known, position}
 use Rattle.cycle_rules.specs.Asking.{Due, NoNumbers, NoPoint, Repeats, Rewinds, after_cycle, cycle_due, due_anew, due_at, due_by}
@@ -33,13 +34,14 @@ use Rattle.mail_cycle.proofs.Lasting.{lasts_cycled, lasts_itself, lasts_on, last
 use Rattle.mail_cycle.proofs.Left.{left_due, left_revs}
 use Rattle.mail_cycle.proofs.Withdrawn.{due_comes, due_texts_come, withdrawal_goes_on, withdrawal_revs}
 use Rattle.mail_desk.proofs.Bases.{base_goes_on, base_stays}
-use Rattle.mail_desk.proofs.Desks.{base_opening}
 use Rattle.mail_desk.proofs.Timelines.{all_on, apart_on, below_on, others_below}
 use Rattle.house_text.specs.Beginning.{can_begin}
-use Rattle.desk_journal.specs.Records.{after_cycle_record, after_due, after_item, after_record, after_records, after_snapshot, after_withdraw_record, agree, can_follow, can_keep, can_rewind, first_state, is_formed, is_spelled, is_true, is_withdrawal, state}
+use Rattle.desk_journal.specs.Founding.{Fore}
+use Rattle.desk_journal.specs.Records.{after_cycle_record, after_due, after_item, after_record, after_records, after_snapshot, after_withdraw_record, behind, can_follow, can_keep, can_rewind, first_state, front, goes_on, is_behind, is_formed, is_spelled, is_true, is_withdrawal, opening_state, settled, state}
 use Rattle.desk_journal.specs.Permanence.{IsSound, RevsBelow}
-use Rattle.desk_journal.proofs.Beginnings.{begins_known}
-use Rattle.desk_journal.proofs.Entering.{item_runs, item_revs, no_rev}
+use Rattle.desk_journal.proofs.Entering.{base_weaker, item_runs, item_revs, no_rev}
+use Rattle.desk_journal.proofs.Founded.{formed_is, front_sound}
+use Rattle.desk_journal.proofs.Fronts.{first_alone, first_opens}
 use Rattle.desk_journal.proofs.Upgrading.{upgrade_is}
 use Rattle.time_desk.proofs.Accounts.{sound_valid}
 use Rattle.time_desk.proofs.Lasts.{record_lasts, stay_kept}
@@ -47,49 +49,26 @@ use Rattle.time_desk.proofs.Undone.{undone_is}
 
 -- ---- at first
 
--- each stamp is the number before the first
-first_fresh : (n next : ℕ) → n < next → (rs : Boxes) → AllByRecursion (λ (r : BoxId × ℕ). r.1 < next) (map (λ (r : BoxId × Mailbox). (r.0, n)) rs)
-first_fresh n next less [] = tt
-first_fresh n next less (r ∷ rs) = (less, first_fresh n next less rs)
-
-begins_house : (house : House) (conf : Conf) → can_begin house conf ≡ true → is_house house ≡ true
-begins_house house conf can = (and_parts _ _ (and_parts _ _ (and_parts _ _ (and_parts _ _ (and_parts _ _ (and_parts _ _ can).0).0).0).0).0).0
-
-first_positive : (house : House) → is_house house ≡ true → 2 ≤ house.first
-first_positive house good = leb-true 2 house.first (and_parts _ _ (and_parts _ _ good).0).1
-
-begun_sound : (house : House) (conf : Conf) → can_begin house conf ≡ true → IsSound (new_desk house conf)
-begun_sound house conf can =
-    let good = begins_house house conf can in
-    let positive = first_positive house good in
-    record {
-      house = good;
-      aliases = begins_known house conf can;
-      base = base_opening house conf good (begins_known house conf can);
-      runs = refl;
-      timeline = record { formed = tt; apart = tt };
-      below = tt;
-      named = opening-ids (opening house conf);
-      fresh = first_fresh (house.first - 1) house.first (omega arith) (opening house conf).boxes;
-      undone = tt;
-    }
-
 -- the base is the opening store
 abbrev pub BeginsOpen : Kept → Type 0
 BeginsOpen kept = kept.base ≡ opening kept.house kept.opening
 
 -- what holds of what is kept, and of its texts
 abbrev pub Holds : Kept → Type 0
-Holds kept = IsSound kept × RevsBelow kept × HasUndoneTexts kept × BeginsOpen kept
+Holds kept = IsSound kept × RevsBelow kept × HasUndoneTexts kept
 
-pub first_holds : (r : JournalRecord) (kept : Kept) → first_state r ≡ Some kept → Holds kept
-first_holds (Format house conf) kept is = by (is_spelled (Format house conf)) (can_begin house conf) refl is
+-- nothing can come back of what a journal opens with
+first_back : (kept : Kept) → kept.undone ≡ None → HasUndoneTexts kept
+first_back kept none = subst (TextsComeIf kept.timeline) (sym none) tt
+
+-- a Format alone leaves the opening store
+first_opening : (r : JournalRecord) (kept : Kept) → first_state r ≡ Some kept → BeginsOpen kept
+first_opening (Format house conf) kept is = by (is_spelled (Format house conf) && can_begin house conf) is
   where
-    by : (spelled can : Bool) → can_begin house conf ≡ can → cond (spelled && can) (Some (new_desk house conf)) None ≡ Some kept → Holds kept
-    by true true e is = let same : new_desk house conf ≡ kept = cc is in subst Holds same (begun_sound house conf e, tt, tt, refl)
-    by true false e is = absurd (cc is)
-    by false can e is = absurd (cc is)
-first_holds _ kept is = absurd (cc is)
+    by : (b : Bool) → option_and_then settled (cond b (Some (let plain : Fore = record { house = house; opening = conf; based = None } in plain)) None) ≡ Some kept → BeginsOpen kept
+    by true e = let same : new_desk house conf ≡ kept = cc e in subst BeginsOpen same refl
+    by false e = absurd (cc e)
+first_opening _ kept is = absurd (cc is)
 
 -- ---- an item more
 
@@ -117,29 +96,14 @@ item_sound kept i sound formed number = record {
   below = below_on kept.next kept.timeline i sound.below number;
   named = after-ids i.number (step (store_of kept) i).0.boxes kept.stamps;
   fresh = fresh_on kept.stamps i.number kept.next number sound.fresh (step (store_of kept) i).0.boxes;
-  undone = comes_on kept.house kept.base kept.timeline kept.next i kept.undone number sound.undone;
+  undone = comes_on (origin_of kept) kept.timeline kept.next i kept.undone number sound.undone;
 }
-
-agreed : (a b : Bool) → agree a b ≡ true → a ≡ b
-agreed true b e = sym e
-agreed false true e = absurd (cc e)
-agreed false false e = refl
 
 -- an item that can follow is well formed, and has the next number
 follows_formed : (kept : Kept) (i : Item) → can_follow kept i ≡ true → IsWellFormed kept.house i × (i.number ≡ kept.next)
 follows_formed kept i can =
     let parts = and_parts ((i.number == kept.next) && nat_lt kept.next 4194304) (is_formed kept.house i) can in
-    let formed = and_parts (agree (is_some i.by) (is_own i.deed) && list_all (is_known kept.house) (cons_option i.by (users_in i.deed)) && nat_le (length (keys_in i.deed)) 65536) (has_form i.deed i.shown) parts.1 in
-    let others = and_parts (agree (is_some i.by) (is_own i.deed) && list_all (is_known kept.house) (cons_option i.by (users_in i.deed))) (nat_le (length (keys_in i.deed)) 65536) formed.0 in
-    let users = and_parts (agree (is_some i.by) (is_own i.deed)) (list_all (is_known kept.house) (cons_option i.by (users_in i.deed))) others.0 in (
-      record {
-        by = agreed (is_some i.by) (is_own i.deed) users.0;
-        users = users.1;
-        few = leb-true (length (keys_in i.deed)) 65536 others.1;
-        form = formed.1;
-      },
-      eqb-true i.number kept.next (and_parts (i.number == kept.next) (nat_lt kept.next 4194304) parts.0).0,
-    )
+    (formed_is kept.house i parts.1, eqb-true i.number kept.next (and_parts (i.number == kept.next) (nat_lt kept.next 4194304) parts.0).0)
 
 -- ---- from what is kept to what is kept behind more records
 
@@ -153,7 +117,7 @@ pub record Follows (old new : Kept) : Type 0 where
 pub item_follows : (kept : Kept) (i : Item) → IsSound kept → IsWellFormed kept.house i → i.number ≡ kept.next → i.rev ≡ 0 → Follows kept (performed kept i)
 item_follows kept i sound formed number rev = record {
   sound = item_sound kept i sound formed number;
-  texts = λ revs back. (item_revs kept i rev revs, texts_on kept.house kept.base kept.timeline kept.next i kept.undone number sound.undone back);
+  texts = λ revs back. (item_revs kept i rev revs, texts_on (origin_of kept) kept.timeline kept.next i kept.undone number sound.undone back);
   lasts = λ revs back. lasts_performed kept i (sound_valid kept sound) sound.named number;
   opens = λ opens. opens;
 }
@@ -175,18 +139,22 @@ item_record kept new what i rev sound is = by (is_spelled what) (can_follow kept
 risen : {a b : ℕ} → a < b → a ≤ b
 risen less = omega (arith, less)
 
+-- revs of the texts of a base are below a later number
+base_rises : (texts : BaseTexts) (next later : ℕ) → next ≤ later → AllByRecursion (λ (r : Body × List ℕ). r.0.rev < next) texts → AllByRecursion (λ (r : Body × List ℕ). r.0.rev < later) texts
+base_rises texts next later le = base_weaker (λ (r : Body × List ℕ). r.0.rev < next) (λ (r : Body × List ℕ). r.0.rev < later) (λ r less. omega (arith, less, le)) texts
+
 module _ (kept : Kept) (at : ℕ) (ask : CycleAsk) (sound : IsSound kept) (known : are_known kept.house ask.inserts ≡ true) where
   abbrev RevsBy : Due → Type 0
   RevsBy (Repeats report) = Unit {0}
   RevsBy NoPoint = Unit {0}
   RevsBy NoNumbers = Unit {0}
-  RevsBy (Rewinds due) = RevsBelow kept → RevsBelow (after_cycle kept ask due)
+  RevsBy (Rewinds due) = AllByRecursion (λ (i : Item). i.rev < kept.next) kept.timeline → AllByRecursion (λ (i : Item). i.rev < due.next) due.timeline
 
   revs_by_place : (o : Option ℕ) → RevsBy (due_at kept at ask o)
   revs_by_place None = tt
   revs_by_place (Some place) = elim (leaves_numbers kept ask) as (λ b. RevsBy (cond b (Rewinds (cycled_at kept at ask place)) NoNumbers)) [ true ↦ left_revs kept at ask place | false ↦ tt ]
 
-  cycle_revs : (due : Cycled) → due_anew kept at ask ≡ Rewinds due → RevsBelow kept → RevsBelow (after_cycle kept ask due)
+  cycle_revs : (due : Cycled) → due_anew kept at ask ≡ Rewinds due → AllByRecursion (λ (i : Item). i.rev < kept.next) kept.timeline → AllByRecursion (λ (i : Item). i.rev < due.next) due.timeline
   cycle_revs due is = subst RevsBy is (revs_by_place (position kept.timeline ask.point))
 
   pub cycle_follows : (due : Cycled) → due_anew kept at ask ≡ Rewinds due → Follows kept (after_cycle kept ask due)
@@ -204,8 +172,11 @@ module _ (kept : Kept) (at : ℕ) (ask : CycleAsk) (sound : IsSound kept) (known
           fresh = goes.fresh;
           undone = due_comes kept at ask sound.timeline sound.below due known sound.base is;
         };
-        texts = λ revs back. (cycle_revs due is revs, due_texts_come kept at ask sound.timeline sound.below due revs is);
-        lasts = λ revs back. lasts_cycled kept at ask due sound.timeline.apart is;
+        texts = λ revs back. (
+          record { items = cycle_revs due is revs.items; base = base_rises kept.texts kept.next due.next (risen goes.rises) revs.base },
+          due_texts_come kept at ask sound.timeline sound.below due revs.items is,
+        );
+        lasts = λ revs back. lasts_cycled kept at ask due sound.base sound.undone sound.timeline.apart is;
         opens = λ opens. opens;
       }
 
@@ -222,7 +193,7 @@ cycle_record kept new number at ask sound is = by (is_spelled (Cycle number at a
     by_due known NoNumbers e is = absurd (cc is)
     by_due known (Rewinds due) e is =
         let same : after_cycle kept ask due ≡ new = cc is in
-        subst (FollowsOn kept) same (cycle_follows kept at ask sound known due e, (lasts_cycled kept at ask due sound.timeline.apart e, stay_cycled kept at ask due sound.timeline.apart e))
+        subst (FollowsOn kept) same (cycle_follows kept at ask sound known due e, (lasts_cycled kept at ask due sound.base sound.undone sound.timeline.apart e, stay_cycled kept at ask due sound.base sound.timeline.apart e))
 
     by_report : are_known kept.house ask.inserts ≡ true → (found : Option Report) → after_due (after_cycle kept ask) (due_by found (due_anew kept at ask)) ≡ Some new → FollowsOn kept new
     by_report known None is = by_due known (due_anew kept at ask) refl is
@@ -240,7 +211,7 @@ withdrawal_follows : (kept : Kept) (at : ℕ) (key : List ℕ) (of : ℕ) (last 
     → Follows kept (after_withdrawal kept key (withdrawn_at kept at last))
 withdrawal_follows kept at key of last sound is left =
     let there : kept.undone ≡ Some last = undone_is kept of last is in
-    let comes : Comes kept.house kept.base kept.timeline kept.next last = subst (ComesIf kept.house kept.base kept.timeline kept.next) there sound.undone in
+    let comes : Comes (origin_of kept) kept.timeline kept.next last = subst (ComesIf (origin_of kept) kept.timeline kept.next) there sound.undone in
     let due : Cycled = withdrawn_at kept at last in
     let goes = withdrawal_goes_on kept last sound.timeline comes at sound.below sound.fresh left in
     record {
@@ -255,8 +226,11 @@ withdrawal_follows kept at key of last sound is left =
         fresh = goes.fresh;
         undone = tt;
       };
-      texts = λ revs back. (withdrawal_revs kept last sound.timeline comes at (subst (TextsComeIf kept.timeline) there back) revs, tt);
-      lasts = λ revs back. lasts_withdrawn kept at key last sound.timeline there comes.back (subst (TextsComeIf kept.timeline) there back);
+      texts = λ revs back. (
+        record { items = withdrawal_revs kept last sound.timeline comes at (subst (TextsComeIf kept.timeline) there back) revs.items; base = base_rises kept.texts kept.next due.next (risen goes.rises) revs.base },
+        tt,
+      );
+      lasts = λ revs back. lasts_withdrawn kept at key last sound.base sound.timeline there comes (subst (TextsComeIf kept.timeline) there back);
       opens = λ opens. opens;
     }
 
@@ -398,16 +372,33 @@ records_stay (r ∷ rs) kept new sound is none = elim (after_record kept r) as (
 
 -- what its records leave
 pub state_holds : (rs : List JournalRecord) (kept : Kept) → state rs ≡ Some kept → Holds kept
-state_holds [] kept is = absurd (cc is)
-state_holds (r ∷ rs) kept is = by (first_state r) refl is
+state_holds rs kept is = by (opening_state (front rs)) refl is
   where
-    by : (o : Option Kept) → first_state r ≡ o → option_and_then (λ (k : Kept). after_records k rs) o ≡ Some kept → Holds kept
+    by : (o : Option Kept) → opening_state (front rs) ≡ o → option_and_then (λ (k : Kept). after_records k (behind rs)) o ≡ Some kept → Holds kept
     by None e is = absurd (cc is)
     by (Some first) e is =
-        let held = first_holds r first e in
-        let follows = records_follow rs first kept held.0 is in
-        let texts = follows.texts held.1 held.2 in
-        (follows.sound, texts.0, texts.1, follows.opens held.3)
+        let held = front_sound (front rs) first e in
+        let follows = records_follow (behind rs) first kept held.0 is in
+        let texts = follows.texts held.1.revs (first_back first held.1.undone) in
+        (follows.sound, texts.0, texts.1)
+
+none_behind : (rs : List JournalRecord) → list_any goes_on rs ≡ false → is_behind rs ≡ true
+none_behind [] none = refl
+none_behind (r ∷ rs) none = ap not (neither (goes_on r) (list_any goes_on rs) none).0
+
+-- where none of them goes on with its Format, the base is the opening store
+pub state_opening : (rs : List JournalRecord) (kept : Kept) → state rs ≡ Some kept → list_any goes_on rs ≡ false → BeginsOpen kept
+state_opening [] kept is none = absurd (cc is)
+state_opening (r ∷ rs) kept is none = by (opening_state (front (r ∷ rs))) refl is
+  where
+    alone : front (r ∷ rs) ≡ r ∷ []
+    alone = (first_alone r rs (none_behind rs (neither (goes_on r) (list_any goes_on rs) none).1)).0
+
+    by : (o : Option Kept) → opening_state (front (r ∷ rs)) ≡ o → option_and_then (λ (k : Kept). after_records k (behind (r ∷ rs))) o ≡ Some kept → BeginsOpen kept
+    by None e is = absurd (cc is)
+    by (Some first) e is =
+        let follows = records_follow (behind (r ∷ rs)) first kept (front_sound (front (r ∷ rs)) first e).0 is in
+        follows.opens (first_opening r first (sym (first_opens r) ∙ ap opening_state (sym alone) ∙ e))
 
 one_more : (what : JournalRecord) (kept new : Kept) → after_record kept what ≡ Some new → after_records kept (what ∷ []) ≡ Some new
 one_more what kept new is = ap (option_and_then Some) is

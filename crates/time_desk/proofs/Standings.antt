@@ -1,5 +1,5 @@
 -- Records that are read and performed one after the other.
-use Rattle.std.proofs.Common.{◌≡◌, inl, inr, ℕ, zero, suc, ◌+◌, ◌-◌, ◌<◌, ◌≤◌, ◌∷◌, ◌++◌, ◌∙◌, ◌&&◌, not, List, Bool, true, false, Option, Some, None, Result, Ok, Err, length, take, drop, get_or, refl, sym, ap, subst, arith, append_assoc, append-nil, length-append, []}
+use Rattle.std.proofs.Common.{◌≡◌, inl, inr, ℕ, zero, suc, ◌+◌, ◌-◌, ◌<◌, ◌≤◌, ◌∷◌, ◌++◌, ◌∙◌, ◌&&◌, ◌||◌, not, cond, is_some, List, Bool, true, false, Option, Some, None, Result, Ok, Err, length, take, drop, get_or, refl, sym, ap, subst, arith, append_assoc, append-nil, length-append, []}
 use Rattle.std.proofs.lemmas.List.{map-append, take_all}
 use Rattle.std.proofs.lemmas.List.Concat.{flat_map-append}
 use Rattle.std.specs.Prelude.{bytes_eq, option_and_then, if◌then◌else◌, IfOk, IfErr, OnOk, slice_get}
@@ -24,7 +24,10 @@ use Rattle.desk_journal.specs.Stored.{AreNoted, MarkedBefore, TextsNoted}
 use Rattle.desk_journal.proofs.Truth.{true_as, true_is}
 use Rattle.time_desk.specs.declared.fault.StartFault.{StartFault}
 use Rattle.time_desk.specs.declared.fault.StartFault.TheVariants.{NotFormatted, Damaged, Disk, NoMemory}
-use Rattle.desk_journal.specs.Records.{after_item, after_kept, after_record, after_records, behind, can_follow, can_keep, first_state, is_true, opening_state, payloads_of, snapshot_record, state}
+use Rattle.verb_core.specs.Names.{is_empty}
+use Rattle.desk_journal.specs.Founding.{behind, goes_on, is_behind, opening_state, when_over}
+use Rattle.desk_journal.specs.Records.{after_item, after_kept, after_record, after_records, can_follow, can_keep, is_true, payloads_of, snapshot_record, state}
+use Rattle.time_desk.specs.Opening.{can_come}
 use Rattle.time_desk.specs.Standing.{BreaksFor, Enters, Fails, FailsPayload, FailsReading, FrontBreaksFor, LeadsTo, Opens, Performed, Performs, SpellsAll, SpellsNothing, StopsFor, kept_as}
 
 -- ---- one record more
@@ -39,13 +42,6 @@ after_push [] r kept mid is = subst (λ (k : Kept). after_records k (r ∷ []) �
 after_push (q ∷ rs) r kept mid is = elim (after_record kept q) as (λ o. option_and_then (λ next. after_records next rs) o ≡ Some mid → option_and_then (λ next. after_records next (rs ++ r ∷ [])) o ≡ after_record mid r) [
   | None ↦ λ e. absurd (cc e)
   | Some next ↦ λ e. after_push rs r next mid e
-] is
-
-pub state_push : (rs : List JournalRecord) (r : JournalRecord) (kept : Kept) → state rs ≡ Some kept → state (rs ++ r ∷ []) ≡ after_record kept r
-state_push [] r kept is = absurd (cc is)
-state_push (q ∷ rs) r kept is = elim (first_state q) as (λ o. option_and_then (λ next. after_records next rs) o ≡ Some kept → option_and_then (λ next. after_records next (rs ++ r ∷ [])) o ≡ after_record kept r) [
-  | None ↦ λ e. absurd (cc e)
-  | Some next ↦ λ e. after_push rs r next kept e
 ] is
 
 payloads-push : (rs : List JournalRecord) (r : JournalRecord) (payload : List ℕ) → payload ≡ record_bytes r → payloads_of (rs ++ r ∷ []) ≡ payloads_of rs ++ payload ∷ []
@@ -183,16 +179,52 @@ all_spelled kept new payloads places o led = record {
 }
 
 -- a front that is not such as a journal can open with
-pub breaks_front : (payloads : List (List ℕ)) (fault : StartFault) → FrontBreaksFor payloads fault → BreaksFor payloads fault
-breaks_front payloads NotFormatted breaks = breaks
-breaks_front payloads (Damaged place) breaks = inl breaks
-breaks_front payloads Disk breaks = tt
-breaks_front payloads NoMemory breaks = tt
+pub breaks_front : (cut : Bool) (end : ℕ) (payloads : List (List ℕ)) (fault : StartFault) → FrontBreaksFor cut end payloads fault → BreaksFor cut end payloads fault
+breaks_front cut end payloads NotFormatted breaks = breaks
+breaks_front cut end payloads (Damaged place) breaks = inl breaks
+breaks_front cut end payloads Disk breaks = tt
+breaks_front cut end payloads NoMemory breaks = tt
+
+-- what stands behind a front does not go on with it
+pub over_behind : (rs : List JournalRecord) → is_behind (when_over rs) ≡ true
+over_behind [] = refl
+over_behind (r ∷ rs) = elim (goes_on r) as (λ (b : Bool). goes_on r ≡ b → is_behind (cond b (when_over rs) (r ∷ rs)) ≡ true) [
+  | true ↦ λ e. over_behind rs
+  | false ↦ λ e. ap not e
+] refl
+
+-- a record that stands behind records as one that is not of their front does not go on with it
+first_over : (records : List JournalRecord) (what : JournalRecord) → behind (records ++ what ∷ []) ≡ what ∷ [] → goes_on what ≡ false
+first_over [] what is = absurd (cc is)
+first_over (r ∷ rs) what is = flip (goes_on what) (subst (λ (l : List JournalRecord). is_behind l ≡ true) is (over_behind (rs ++ what ∷ [])))
+  where
+    flip : (b : Bool) → not b ≡ true → b ≡ false
+    flip true e = absurd (cc e)
+    flip false e = refl
+
+-- a front that is over does not go on with the next record
+over_here : {payloads : List (List ℕ)} {kept : Kept} {places : List Place} (o : Opens payloads kept places) (more : List JournalRecord) (payload : List ℕ) (after : List (List ℕ)) → o.others ≡ payloads_of more ++ payload ∷ after
+    → (what : JournalRecord) → Spells what payload → behind (o.records ++ more) ≡ [] → goes_on what ≡ false
+over_here o more payload after spelled what spells alone =
+    let next : o.others ≡ payloads_of (more ++ what ∷ []) ++ after =
+    spelled ∙ ap (λ (p : List ℕ). payloads_of more ++ p ∷ after) spells.1 ∙ sym (append_assoc (payloads_of more) (record_bytes what ∷ []) after)
+    ∙ ap (λ (ps : List (List ℕ)). ps ++ after) (sym (map-append record_bytes more (what ∷ []))) in
+    let none : more ≡ [] = sym (o.behinds more (payload ∷ after) spelled) ∙ alone in
+    let over : behind (o.records ++ (more ++ what ∷ [])) ≡ more ++ what ∷ [] = o.behinds (more ++ what ∷ []) after next in
+    first_over o.records what (ap (λ (rs : List JournalRecord). behind (o.records ++ (rs ++ what ∷ []))) (sym none) ∙ over ∙ ap (λ (rs : List JournalRecord). rs ++ what ∷ []) none)
+
+-- what can't follow can't come, where a front is over
+none_comes : (records : List JournalRecord) (kept : Kept) (what : JournalRecord) → (behind records ≡ [] → goes_on what ≡ false) → after_record kept what ≡ None → can_come records kept what ≡ false
+none_comes records kept what over none = by (behind records) (λ e. over e) ∙ ap is_some none
+  where
+    by : (rs : List JournalRecord) → (rs ≡ [] → goes_on what ≡ false) → ((is_empty rs && goes_on what) || is_some (after_record kept what)) ≡ is_some (after_record kept what)
+    by [] over = ap (λ (b : Bool). b || is_some (after_record kept what)) (over refl)
+    by (r ∷ rs) over = refl
 
 -- one behind the front that can't follow
-pub breaks_later : (kept : Kept) (payloads : List (List ℕ)) (places : List Place) (fault : StartFault) (o : Opens payloads kept places) → StopsFor kept (length (sealed (payloads_of o.records))) o.others fault → BreaksFor payloads fault
-breaks_later kept payloads places NotFormatted o stop = stop
-breaks_later kept payloads places (Damaged place) o stop =
+pub breaks_later : (cut : Bool) (end : ℕ) (kept : Kept) (payloads : List (List ℕ)) (places : List Place) (fault : StartFault) (o : Opens payloads kept places) → StopsFor kept (length (sealed (payloads_of o.records))) o.others fault → BreaksFor cut end payloads fault
+breaks_later cut end kept payloads places NotFormatted o stop = stop
+breaks_later cut end kept payloads places (Damaged place) o stop =
     let opened = payloads_of o.records in
     let led = payloads_of stop.leads.records in
     let spelled : o.others ≡ led ++ stop.payload ∷ stop.after = stop.split ∙ ap (λ (ps : List (List ℕ)). ps ++ stop.payload ∷ stop.after) stop.leads.spelled in
@@ -204,12 +236,12 @@ breaks_later kept payloads places (Damaged place) o stop =
           ∙ ap (λ (ps : List (List ℕ)). ps ++ stop.payload ∷ stop.after) (sym (both_payloads o.records stop.leads.records));
       kept = stop.mid;
       state_is = state_opened payloads kept stop.mid places o stop.leads.records (stop.payload ∷ stop.after) spelled stop.leads.leaves;
-      stands_none = stop.stands_none;
+      stands_none = λ what spells. none_comes (o.records ++ stop.leads.records) stop.mid what (λ alone. over_here o stop.leads.records stop.payload stop.after spelled what spells alone) (stop.stands_none what spells);
       place_is = stop.place_is ∙ sym (length-append (sealed opened) (sealed stop.first)) ∙ sym (ap length (flat_map-append (λ (p : List ℕ). 85 ∷ frame p) opened stop.first))
           ∙ ap (λ (ps : List (List ℕ)). length (sealed (opened ++ ps))) stop.leads.spelled ∙ ap (λ (ps : List (List ℕ)). length (sealed ps)) (sym (both_payloads o.records stop.leads.records));
     })
-breaks_later kept payloads places Disk o stop = tt
-breaks_later kept payloads places NoMemory o stop = tt
+breaks_later cut end kept payloads places Disk o stop = tt
+breaks_later cut end kept payloads places NoMemory o stop = tt
 
 -- ---- one payload
 
@@ -328,31 +360,6 @@ has_first (p ∷ payloads) places first are is =
       length_is = ap (λ (q : Place). q.length) same;
       rest = ap (drop 1) are ∙ ap (λ (n : ℕ). places_from n payloads) size;
     }
-
--- a front of one record
-pub opens_first : (kept : Kept) (payloads : List (List ℕ)) (places : List Place) (first : Place) (has : HasFirst payloads places first) → Performed first_state has.payload kept → Opens payloads kept (drop 1 places)
-opens_first kept payloads places first has done = record {
-  records = done.what ∷ [];
-  others = has.others;
-  split = has.split ∙ ap (λ (p : List ℕ). p ∷ has.others) done.spells.1;
-  state_is = done.is;
-  fronts = λ more rest is. refl;
-  behinds = λ more rest is. refl;
-  places_are = has.rest ∙ ap (λ (p : List ℕ). places_from (length (sealed (p ∷ []))) has.others) done.spells.1;
-}
-
--- a first payload that is no record that can begin a journal
-pub breaks_first : (payloads : List (List ℕ)) (places : List Place) (first : Place) (has : HasFirst payloads places first) (fault : StartFault) → FailsPayload first_state has.payload first.gate fault → FrontBreaksFor payloads fault
-breaks_first payloads places first has NotFormatted fails = fails
-breaks_first payloads places first has (Damaged place) fails = record {
-  payload = has.payload;
-  after = has.others;
-  split = has.split;
-  stands_none = fails.0;
-  place_is = fails.1 ∙ has.gate_is;
-}
-breaks_first payloads places first has Disk fails = tt
-breaks_first payloads places first has NoMemory fails = tt
 
 -- the first payload lies at the first place
 pub lies_first : (payloads : List (List ℕ)) (places : List Place) (first : Place) (has : HasFirst payloads places first) → LiesAt payloads first.gate first.length has.payload

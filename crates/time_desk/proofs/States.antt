@@ -23,13 +23,12 @@ use Rattle.verb_bytes.specs.declared.journal.JournalRecord.{JournalRecord}
 use Rattle.verb_bytes.specs.declared.journal.JournalRecord.TheVariants.{Cycle, Withdraw}
 use Rattle.paradox.specs.declared.reports.Report.{Report}
 use Rattle.store_kept.specs.Coming.{HasUndoneTexts}
-use Rattle.store_kept.specs.Kept.{Kept, stamp_at, store_of}
+use Rattle.store_kept.specs.Kept.{BaseTexts, Kept, stamp_at, store_of}
 use Rattle.cycle_rules.specs.Asking.{Due, NoNumbers, NoPoint, Repeats, Rewinds, after_cycle, cycle_due}
 use Rattle.cycle_rules.specs.Cycles.{Cycled}
 use Rattle.cycle_rules.specs.Withdrawals.{after_withdrawal, withdraw_due}
 use Rattle.mail_cycle.specs.Permanence.{UidsLast, UidsStay}
-use Rattle.mail_desk.specs.Timeline.{has_text}
-use Rattle.store_kept.specs.Texts.{all_bodies}
+use Rattle.store_kept.specs.Texts.{all_bodies, has_text_kept, has_text_with}
 use Rattle.time_desk.specs.Cycling.{Cycles, DoesBy}
 use Rattle.time_desk.specs.Withdrawing.{Withdraws}
 use Rattle.desk_journal.specs.Lasting.{Lasting}
@@ -37,44 +36,45 @@ use Rattle.desk_journal.specs.Sealing.{Seals}
 use Rattle.desk_journal.specs.Stored.{HoldsTexts}
 use Rattle.std.proofs.Common.{inl}
 use Rattle.desk_journal.specs.Permanence.{Arrives, IsAccounted, IsSound, Message, RevsBelow, message_at}
-use Rattle.desk_journal.specs.Records.{after_records, is_withdrawal, state}
+use Rattle.desk_journal.specs.Records.{after_records, front, is_withdrawal, state}
 use Rattle.time_desk.proofs.Accounts.{once_some, one_fate, sound_valid, stray_given}
 use Rattle.time_desk.proofs.Lasts.{lasts_kept, stay_kept}
 use Rattle.time_desk.proofs.Messages.{one_message, stamp_below, stamped_there, text_there, there}
-use Rattle.desk_journal.proofs.Runs.{state_append}
+use Rattle.desk_journal.proofs.Runs.{state_whole}
 use Rattle.time_desk.proofs.Soundness.{records_follow, state_holds}
 
 -- ---- uids
 
--- each body in a store that items lead to has a text among them
+-- each body in a store that items lead to has a text among them, or among those of a base
 abbrev pub BodiesHaveTexts : Type 0
-BodiesHaveTexts = (base : MailStore) (t : List Item) → IsValid base → AllByRecursion (IsWellFormed base.house) t → IsTrue (all_bodies (has_text t) base.boxes) → IsTrue (all_bodies (has_text t) (run base t).boxes)
+BodiesHaveTexts = (texts : BaseTexts) (base : MailStore) (t : List Item) → IsValid base → AllByRecursion (IsWellFormed base.house) t → IsTrue (all_bodies (has_text_with texts t) base.boxes)
+    → IsTrue (all_bodies (has_text_with texts t) (run base t).boxes)
 
-sound_texts : BodiesHaveTexts → (kept : Kept) → IsSound kept → all_bodies (has_text kept.timeline) (store_of kept).boxes ≡ true
+sound_texts : BodiesHaveTexts → (kept : Kept) → IsSound kept → all_bodies (has_text_kept kept) (store_of kept).boxes ≡ true
 sound_texts texts kept sound =
-    subst (λ (s : MailStore). all_bodies (has_text kept.timeline) s.boxes ≡ true) (sym sound.runs)
-    (texts kept.base kept.timeline sound.base.stands.valid sound.base.stands.timeline.formed (base_known kept kept.timeline sound.base))
+    subst (λ (s : MailStore). all_bodies (has_text_kept kept) s.boxes ≡ true) (sym sound.runs)
+    (texts kept.texts kept.base kept.timeline sound.base.stands.valid sound.base.stands.timeline.formed (base_known kept kept.timeline sound.base))
 
 pub one_message_kept : BodiesHaveTexts → (a b : Kept) (id : BoxId) (stamp uid : ℕ) (m n : Message) → IsSound a → RevsBelow a → IsSound b → UidsLast a b → message_at a id stamp uid ≡ Some m → message_at b id stamp uid ≡ Some n → m ≡ n
 one_message_kept texts a b id stamp uid m n old revs new lasts =
-    one_message a b id stamp uid m n old revs (sound_valid a old) (sound_texts texts a old) (sound_texts texts b new) lasts
+    one_message a b id stamp uid m n old revs (sound_valid a old) new (sound_texts texts a old) (sound_texts texts b new) lasts
 
 -- each message that is named has a text
 pub named_text : BodiesHaveTexts → (records : List JournalRecord) (kept : Kept) (id : BoxId) (stamp uid : ℕ) (m : Message) → state records ≡ Some kept → message_at kept id stamp uid ≡ Some m → is_some m.text ≡ true
 named_text texts records kept id stamp uid m is named =
     let found = there kept id stamp uid m named in
-    let has = text_there kept.timeline (store_of kept).boxes id uid found.box found.entry (sound_texts texts kept (state_holds records kept is).0) found.there found.found in
+    let has = text_there kept (store_of kept).boxes id uid found.box found.entry (sound_texts texts kept (state_holds records kept is).0) found.there found.found in
     subst (λ (n : Message). is_some n.text ≡ true) found.is (ap is_some has.1)
 
 -- what is kept after more records
-behind : (front more : List JournalRecord) (a b : Kept) → state front ≡ Some a → state (front ++ more) ≡ Some b → after_records a more ≡ Some b
-behind front more a b first second = sym (state_append front more a first) ∙ second
+after_first : (first more : List JournalRecord) (a b : Kept) → state first ≡ Some a → state (first ++ more) ≡ Some b → front (first ++ more) ≡ front first → after_records a more ≡ Some b
+after_first first more a b is then_is whole = sym (state_whole first more a whole is) ∙ then_is
 
-pub one_message_of : BodiesHaveTexts → (front more : List JournalRecord) (a b : Kept) (id : BoxId) (stamp uid : ℕ) (m n : Message) → state front ≡ Some a → state (front ++ more) ≡ Some b
+pub one_message_of : BodiesHaveTexts → (first more : List JournalRecord) (a b : Kept) (id : BoxId) (stamp uid : ℕ) (m n : Message) → state first ≡ Some a → state (first ++ more) ≡ Some b → front (first ++ more) ≡ front first
     → message_at a id stamp uid ≡ Some m → message_at b id stamp uid ≡ Some n → m ≡ n
-one_message_of texts front more a b id stamp uid m n first second =
-    let old = state_holds front a first in
-    let follows = records_follow more a b old.0 (behind front more a b first second) in
+one_message_of texts first more a b id stamp uid m n is then_is whole =
+    let old = state_holds first a is in
+    let follows = records_follow more a b old.0 (after_first first more a b is then_is whole) in
     one_message_kept texts a b id stamp uid m n old.0 old.1 follows.sound (follows.lasts old.1 old.2)
 
 -- a stamp that a mailbox lost is not its stamp again
@@ -85,13 +85,13 @@ lost_of a b c id stamp old new first second had lost again =
     let there = stamped_there c.stamps (store_of c).boxes id stamp new.named again in
     lost (second.stamps id stamp there.0 (omega arith) again there.1).0
 
-pub lost_behind : (front mid more : List JournalRecord) (a b c : Kept) (id : BoxId) (stamp : ℕ) → state front ≡ Some a → state (front ++ mid) ≡ Some b → state (front ++ mid ++ more) ≡ Some c
-    → stamp_at a id ≡ Some stamp → stamp_at b id ≢ Some stamp → stamp_at c id ≢ Some stamp
-lost_behind front mid more a b c id stamp first second third =
-    let old = state_holds front a first in
-    let follows = records_follow mid a b old.0 (behind front mid a b first second) in
+pub lost_behind : (first mid more : List JournalRecord) (a b c : Kept) (id : BoxId) (stamp : ℕ) → state first ≡ Some a → state (first ++ mid) ≡ Some b → state (first ++ mid ++ more) ≡ Some c
+    → front (first ++ mid) ≡ front first → front (first ++ mid ++ more) ≡ front first → stamp_at a id ≡ Some stamp → stamp_at b id ≢ Some stamp → stamp_at c id ≢ Some stamp
+lost_behind first mid more a b c id stamp one two three whole still =
+    let old = state_holds first a one in
+    let follows = records_follow mid a b old.0 (after_first first mid a b one two whole) in
     let texts = follows.texts old.1 old.2 in
-    let last = records_follow more b c follows.sound (behind (front ++ mid) more b c second third) in
+    let last = records_follow more b c follows.sound (after_first (first ++ mid) more b c two three (still ∙ sym whole)) in
     lost_of a b c id stamp old.0 last.sound (follows.lasts old.1 old.2) (last.lasts texts.0 texts.1)
 
 -- ---- fates

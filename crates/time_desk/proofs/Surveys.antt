@@ -1,5 +1,5 @@
 -- What a survey of a disk and the records that are read say of the image.
-use Rattle.std.proofs.Common.{◌≡◌, inl, inr, Result, Ok, Err, ℕ, ◌+◌, ◌<◌, ◌≤◌, ◌∷◌, ◌++◌, ◌∙◌, [], List, Bool, true, false, length, refl, sym, ap, subst, arith, append_assoc, length-append}
+use Rattle.std.proofs.Common.{◌≡◌, inl, inr, Result, Ok, Err, ℕ, ◌+◌, ◌<◌, ◌≤◌, ◌∷◌, ◌++◌, ◌∙◌, [], List, Bool, true, false, None, length, append-nil, refl, sym, ap, subst, arith, append_assoc, length-append}
 use Rattle.std.proofs.lemmas.List.Concat.{flat_map-append}
 use Rattle.std.specs.List.{AllByRecursion}
 use Rattle.std.specs.Prelude.{IfErr, IfOk}
@@ -9,7 +9,7 @@ use Rattle.undo_outside.specs.Moments.{LeavesOnly}
 use Rattle.undo_outside.proofs.Moments.{images_now, joined}
 use Rattle.seal_log.specs.Causes.{SameCounts}
 use Rattle.seal_log.specs.declared.place.Place.{Place}
-use Rattle.seal_log.specs.Journal.{frame, sealed, IsPayload, StandsFor}
+use Rattle.seal_log.specs.Journal.{frame, sealed, BeginsClosed, IsPayload, StandsFor}
 use Rattle.seal_log.specs.Loading.{BeginsCut, places_from}
 use Rattle.seal_log.specs.Loads.{Ends, IsSurveyed}
 use Rattle.seal_log.specs.Settled.{IsSettled, ReadsAlone}
@@ -18,7 +18,7 @@ use Rattle.time_desk.specs.declared.fault.StartFault.{StartFault}
 use Rattle.time_desk.specs.declared.fault.StartFault.TheVariants.{NotFormatted, Damaged, Disk, NoMemory}
 use Rattle.time_desk.specs.Opening.{FaultCounts, Finds, IsDamaged, IsStarted, Refuses, Starts}
 use Rattle.desk_journal.specs.Records.{payloads_of}
-use Rattle.time_desk.specs.Standing.{BreaksAt, BreaksFor, Fails, ReadCounts, SpellsAll}
+use Rattle.time_desk.specs.Standing.{BreaksAt, BreaksAtEnd, BreaksBehind, BreaksFor, BreaksInBase, BreaksInFront, Fails, IsOver, ReadCounts, SpellsAll}
 use Rattle.verb_core.specs.declared.mailbox.Body.{Body}
 use Rattle.shelf.specs.declared.note.Note.{Note}
 use Rattle.desk_journal.specs.Stored.{SettledTexts, TextsHeld}
@@ -43,43 +43,110 @@ behind first payload after rest =
     ∙ append_assoc (sealed first) (sealed (payload ∷ after)) rest ∙ ap (λ (l : List ℕ). sealed first ++ l) (sealed_opens payload after rest)
 
 module _ (image : List ℕ) (disk : DiskTold) (gate : ℕ) (places : List Place) where
-  broken : (is_cut : Bool) (seen : IsSurveyed image disk gate places is_cut) (place : ℕ) → BreaksAt seen.payloads place → IsDamaged image place
-  broken is_cut seen place (inl b) =
-      let short = subst (AllByRecursion IsPayload) b.split seen.short in
+  -- a payload among others, and all behind it
+  record Cuts (first : List (List ℕ)) (payload : List ℕ) (after : List (List ℕ)) (rest : List ℕ) : Type 0 where
+    pub split : image ≡ sealed first ++ 85 ∷ (frame payload ++ (sealed after ++ rest))
+    pub first_short : AllByRecursion IsPayload first
+    pub short : IsPayload payload
+    pub some : 0 < length (sealed after ++ rest)
+
+  cuts : (is_cut : Bool) (seen : IsSurveyed image disk gate places is_cut) (first : List (List ℕ)) (payload : List ℕ) (after : List (List ℕ)) → seen.payloads ≡ first ++ payload ∷ after → Cuts first payload after seen.rest
+  cuts is_cut seen first payload after split =
+      let short = subst (AllByRecursion IsPayload) split seen.short in
+      record {
+        split = seen.split ∙ ap (λ (ps : List (List ℕ)). sealed ps ++ seen.rest) split ∙ behind first payload after seen.rest;
+        first_short = front_all first (payload ∷ after) short;
+        short = payload_at first payload after short;
+        some = omega (arith, length-append (sealed after) seen.rest, some_rest is_cut disk gate seen.payloads seen.rest seen.ends);
+      }
+
+  in_front : (is_cut : Bool) (seen : IsSurveyed image disk gate places is_cut) (place : ℕ) → BreaksInFront seen.payloads place → IsDamaged image place
+  in_front is_cut seen place b =
+      let at = cuts is_cut seen (payloads_of b.records) b.payload b.after b.split in
       inl (record {
+        records = b.records;
+        fore = b.fore;
+        is_fore = b.is_fore;
+        rest = 85 ∷ (frame b.payload ++ (sealed b.after ++ seen.rest));
+        split = at.split;
+        short = at.first_short;
         place_is = b.place_is;
-        bad = inr (record {
-          payload = b.payload;
-          more = sealed b.after ++ seen.rest;
-          split = seen.split ∙ ap (λ (ps : List (List ℕ)). sealed ps ++ seen.rest) b.split ∙ sealed_opens b.payload b.after seen.rest;
-          fits = short.0;
-          some = omega (arith, length-append (sealed b.after) seen.rest, some_rest is_cut disk gate seen.payloads seen.rest seen.ends);
-          stands_none = b.stands_none;
-        });
+        bad = inr (record { payload = b.payload; more = sealed b.after ++ seen.rest; split = refl; fits = at.short; some = at.some; stands_none = b.stands_none });
       })
-  broken is_cut seen place (inr b) =
-      let first = payloads_of b.records in
-      let short = subst (AllByRecursion IsPayload) b.split seen.short in
-      inr (record {
+
+  -- a front that is over, and lacks something
+  in_base : (is_cut : Bool) (seen : IsSurveyed image disk gate places is_cut) (place : ℕ) → BreaksInBase is_cut seen.payloads place → IsDamaged image place
+  in_base is_cut seen place b = by b.others b.split b.over
+    where
+      closed_rest : (cut : Bool) → cut ≡ false → Ends cut disk gate seen.payloads seen.rest → BeginsClosed seen.rest
+      closed_rest true e ends = absurd (cc e)
+      closed_rest false e ends = ends.0
+
+      by : (others : List (List ℕ)) → seen.payloads ≡ payloads_of b.records ++ others → IsOver is_cut others → IsDamaged image place
+      by [] split over = inr (inl (record {
+        records = b.records;
+        fore = b.fore;
+        is_fore = b.is_fore;
+        lacks = b.lacks;
+        rest = seen.rest;
+        split = seen.split ∙ ap (λ (ps : List (List ℕ)). sealed ps ++ seen.rest) (split ∙ append-nil (payloads_of b.records));
+        short = subst (AllByRecursion IsPayload) (split ∙ append-nil (payloads_of b.records)) seen.short;
+        place_is = b.place_is;
+        over = inl (closed_rest is_cut over seen.ends);
+      }))
+      by (p ∷ ps) split over =
+          let at = cuts is_cut seen (payloads_of b.records) p ps split in
+          inr (inl (record {
+            records = b.records;
+            fore = b.fore;
+            is_fore = b.is_fore;
+            lacks = b.lacks;
+            rest = 85 ∷ (frame p ++ (sealed ps ++ seen.rest));
+            split = at.split;
+            short = at.first_short;
+            place_is = b.place_is;
+            over = inr (record { payload = p; more = sealed ps ++ seen.rest; split = refl; short = at.short; some = at.some; what = over.0; spells = over.1; other = over.2 });
+          }))
+
+  -- a journal that ends in a frame that is cut within its front
+  at_end : (is_cut : Bool) (seen : IsSurveyed image disk gate places is_cut) (place : ℕ) → BreaksAtEnd is_cut gate seen.payloads place → IsDamaged image place
+  at_end is_cut seen place b = inl (record {
+    records = b.records;
+    fore = b.fore;
+    is_fore = b.is_fore;
+    rest = seen.rest;
+    split = seen.split ∙ ap (λ (ps : List (List ℕ)). sealed ps ++ seen.rest) b.split;
+    short = subst (AllByRecursion IsPayload) b.split seen.short;
+    place_is = b.place_is ∙ seen.gate_is ∙ ap (λ (ps : List (List ℕ)). length (sealed ps)) b.split;
+    bad = inl (cut_rest is_cut b.is_cut seen.ends);
+  })
+    where
+      cut_rest : (cut : Bool) → cut ≡ true → Ends cut disk gate seen.payloads seen.rest → BeginsCut seen.rest
+      cut_rest true e ends = ends
+      cut_rest false e ends = absurd (cc e)
+
+  in_later : (is_cut : Bool) (seen : IsSurveyed image disk gate places is_cut) (place : ℕ) → BreaksBehind seen.payloads place → IsDamaged image place
+  in_later is_cut seen place b =
+      let at = cuts is_cut seen (payloads_of b.records) b.payload b.after b.split in
+      inr (inr (record {
         records = b.records;
         rest = 85 ∷ (frame b.payload ++ (sealed b.after ++ seen.rest));
-        split = seen.split ∙ ap (λ (ps : List (List ℕ)). sealed ps ++ seen.rest) b.split ∙ behind first b.payload b.after seen.rest;
-        short = front_all first (b.payload ∷ b.after) short;
+        split = at.split;
+        short = at.first_short;
         kept = b.kept;
         state_is = b.state_is;
         place_is = b.place_is;
-        bad = inr (record {
-          payload = b.payload;
-          more = sealed b.after ++ seen.rest;
-          split = refl;
-          fits = payload_at first b.payload b.after short;
-          some = omega (arith, length-append (sealed b.after) seen.rest, some_rest is_cut disk gate seen.payloads seen.rest seen.ends);
-          stands_none = b.stands_none;
-        });
-      })
+        bad = inr (record { payload = b.payload; more = sealed b.after ++ seen.rest; split = refl; fits = at.short; some = at.some; stands_none = b.stands_none });
+      }))
+
+  broken : (is_cut : Bool) (seen : IsSurveyed image disk gate places is_cut) (place : ℕ) → BreaksAt is_cut gate seen.payloads place → IsDamaged image place
+  broken is_cut seen place (inl (inl b)) = in_front is_cut seen place b
+  broken is_cut seen place (inl (inr (inl b))) = in_base is_cut seen place b
+  broken is_cut seen place (inl (inr (inr b))) = at_end is_cut seen place b
+  broken is_cut seen place (inr b) = in_later is_cut seen place b
 
   -- the first payload that is no record that can stand
-  pub breaks : (is_cut : Bool) (seen : IsSurveyed image disk gate places is_cut) (fault : StartFault) → BreaksFor seen.payloads fault → Refuses image fault
+  pub breaks : (is_cut : Bool) (seen : IsSurveyed image disk gate places is_cut) (fault : StartFault) → BreaksFor is_cut gate seen.payloads fault → Refuses image fault
   breaks is_cut seen NotFormatted b = absurd b
   breaks is_cut seen (Damaged place) b = broken is_cut seen place b
   breaks is_cut seen Disk b = tt
@@ -88,7 +155,7 @@ module _ (image : List ℕ) (disk : DiskTold) (gate : ℕ) (places : List Place)
   -- a frame that is cut, behind records that all can stand
   pub cut_behind : (is_cut : Bool) (seen : IsSurveyed image disk gate places is_cut) (kept : Kept) → is_cut ≡ true → SpellsAll seen.payloads kept → IsDamaged image gate
   cut_behind false seen kept cut all = absurd (cc cut)
-  cut_behind true seen kept cut all = inr (record {
+  cut_behind true seen kept cut all = inr (inr (record {
     records = all.records;
     rest = seen.rest;
     split = seen.split ∙ ap (λ (ps : List (List ℕ)). sealed ps ++ seen.rest) all.spelled;
@@ -97,7 +164,7 @@ module _ (image : List ℕ) (disk : DiskTold) (gate : ℕ) (places : List Place)
     state_is = all.state_is;
     place_is = seen.gate_is ∙ ap (λ (ps : List (List ℕ)). length (sealed ps)) all.spelled;
     bad = inl seen.ends;
-  })
+  }))
 
   pub cut_told : (is_cut : Bool) (seen : IsSurveyed image disk gate places is_cut) (kept : Kept) (fault : StartFault) → SpellsAll seen.payloads kept → Fails (is_cut ≡ true) gate fault → Refuses image fault
   cut_told is_cut seen kept NotFormatted all fails = absurd fails
@@ -111,7 +178,8 @@ module _ (image : List ℕ) (disk : DiskTold) (gate : ℕ) (places : List Place)
     where
       by_cases : (cut : Bool) (payloads : List (List ℕ)) → image ≡ sealed payloads ++ seen.rest → places_from 0 payloads ≡ [] → gate ≡ length (sealed payloads) → Ends cut disk gate payloads seen.rest → IsDamaged image gate
       by_cases cut (p ∷ ps) split none gate_is ends = absurd (cc none)
-      by_cases true [] split none gate_is ends = inl (record { place_is = gate_is; bad = inl (subst BeginsCut (sym split) ends) })
+      by_cases true [] split none gate_is ends =
+          inl (record { records = []; fore = None; is_fore = refl; rest = image; split = refl; short = tt; place_is = gate_is; bad = inl (subst BeginsCut (sym split) ends) })
       by_cases false [] split none gate_is ends = absurd (omega (arith, ends.1))
 
   -- records that all can stand, and a gate that is not open behind them

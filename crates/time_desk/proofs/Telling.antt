@@ -1,5 +1,5 @@
 -- Which texts are told while the journal is read: those of the items of a timeline, and those that a request asks for.
-use Rattle.std.proofs.Common.{◌≡◌, ◌≢◌, ℕ, zero, suc, ◌+◌, ◌<◌, ◌≤◌, ◌==◌, Bool, true, false, not, ◌||◌, cond, List, ◌∷◌, ◌++◌, length, map, filter, take, drop, Option, None, Some, Result, Ok, Err, is_some, option_and_then, refl, ap, sym, subst, ◌∙◌, arith, []}
+use Rattle.std.proofs.Common.{◌≡◌, ◌≢◌, ℕ, zero, suc, ◌+◌, ◌<◌, ◌≤◌, ◌==◌, nat_le, Bool, true, false, not, ◌||◌, ◌&&◌, cond, List, ◌∷◌, ◌++◌, length, map, filter, take, drop, Option, None, Some, Result, Ok, Err, is_some, option_and_then, refl, ap, sym, subst, ◌∙◌, arith, []}
 use Rattle.std.specs.List.{AllByRecursion}
 use Rattle.std.specs.Option.{option_map_or, option_or}
 use Rattle.std.proofs.lemmas.Bool.Decides.{nat_tests}
@@ -28,9 +28,9 @@ use Rattle.withdraw.specs.declared.undone.UndoneBehind.{UndoneBehind}
 use Rattle.withdraw.specs.Coming.{TextsComeBack}
 use Rattle.withdraw.proofs.Texts.{texts_back}
 use Rattle.store_kept.specs.Coming.{Comes, ComesIf, HasUndone, HasUndoneTexts, TextsComeIf}
-use Rattle.store_kept.specs.Kept.{Kept}
-use Rattle.store_kept.specs.Texts.{items_asked, items_behind, text_at_hand}
-use Rattle.store_kept.proofs.Coming.{kept_at_hand}
+use Rattle.store_kept.specs.Kept.{Kept, origin_of}
+use Rattle.store_kept.specs.Texts.{items_asked, items_behind, text_at_hand, text_before, text_with}
+use Rattle.store_kept.proofs.Coming.{kept_at_hand, with_first}
 use Rattle.cycle_rules.specs.Withdrawals.{restored_items}
 use Rattle.mail_desk.specs.Timeline.{body_of, item_of, told_by}
 use Rattle.mail_desk.proofs.BodyTexts.{text_by_item}
@@ -105,15 +105,15 @@ all_same kept apart comes =
     (zipped (λ (i : Item). AllByRecursion (IsAlike i) kept.timeline) (λ (i : Item). AllByRecursion (IsAlike i) back) back other (same_in back (back_apart kept comes))))
 
 -- a text lies in a record where each item of its number is no notice
-recorded_where : (t : List Item) (i : Item) → is_some (text_of t (body_of i)) ≡ true → AllByRecursion (λ (j : Item). j.number ≡ i.number → is_notice j.deed ≡ false) t → is_recorded t (body_of i) ≡ true
-recorded_where t i some plain = by (item_with t (body_of i)) refl some
+recorded_where : (kept : Kept) (t : List Item) (i : Item) → is_some (text_of t (body_of i)) ≡ true → AllByRecursion (λ (j : Item). j.number ≡ i.number → is_notice j.deed ≡ false) t → is_recorded kept t (body_of i) ≡ true
+recorded_where kept t i some plain = by (item_with t (body_of i)) refl some
   where
-    by : (o : Option Item) → item_with t (body_of i) ≡ o → is_some (option_and_then (λ (j : Item). text_in j.deed) o) ≡ true → is_some (option_and_then recorded_in (item_with t (body_of i))) ≡ true
+    by : (o : Option Item) → item_with t (body_of i) ≡ o → is_some (option_and_then (λ (j : Item). text_in j.deed) o) ≡ true → is_recorded kept t (body_of i) ≡ true
     by None found has = absurd (let wrong : ◌≡◌ {A = Bool} false true = has in cc)
     by (Some j) found has =
         let brought = found_brings t (body_of i) j found in
         let none : is_notice j.deed ≡ false = item_has (λ (k : Item). k.number ≡ i.number → is_notice k.deed ≡ false) (brings (body_of i)) t j plain found brought.number in
-        ap (λ (o : Option Item). is_some (option_and_then recorded_in o)) found ∙ ap (λ b. is_some (cond b None (text_in j.deed))) none ∙ has
+        ap (λ (o : Option Item). is_some (option_map_or (recorded_in kept.first) o (text_before kept.texts (body_of i)))) found ∙ ap (λ (b : Bool). is_some (cond (b && nat_le kept.first j.number) None (text_in j.deed))) none ∙ has
 
 -- ---- what is told
 
@@ -150,21 +150,21 @@ or_true false b is = is
 
 -- the text of a delivery lies in a record
 abbrev IsToldOf : Kept → Item → Type 0
-IsToldOf kept i = needs_text i.deed ≡ true → is_recorded (items_asked kept) (body_of i) ≡ true
+IsToldOf kept i = needs_text i.deed ≡ true → is_recorded kept (items_asked kept) (body_of i) ≡ true
 
 all_told : (kept : Kept) → NumbersApart kept.timeline → HasUndone kept → AllByRecursion (IsToldOf kept) (items_asked kept)
 all_told kept apart comes =
     let t = items_asked kept in
     let Found : Item → Type 0 = λ i. is_some (text_in i.deed) ≡ true → is_some (text_of t (body_of i)) ≡ true in
     weaker (λ (i : Item). Found i × AllByRecursion (IsAlike i) t) (IsToldOf kept)
-    (λ i both needs. recorded_where t i (both.0 (has_some i.deed needs)) (weaker (IsAlike i) (λ (j : Item). j.number ≡ i.number → is_notice j.deed ≡ false) (λ j alike same. alike same ∙ delivery_plain i.deed needs) t both.1)) t
+    (λ i both needs. recorded_where kept t i (both.0 (has_some i.deed needs)) (weaker (IsAlike i) (λ (j : Item). j.number ≡ i.number → is_notice j.deed ≡ false) (λ j alike same. alike same ∙ delivery_plain i.deed needs) t both.1)) t
     (zipped Found (λ (i : Item). AllByRecursion (IsAlike i) t) t (some_own t) (all_same kept apart comes))
 
 module _ (held : Held) (gate c : ℕ) (replaces : List (ℕ × List ℕ)) (noted : TextsNoted gate held.notes held.kept) where
   -- a text that a record has can be read
-  note_readable : (body : Body) → is_recorded (items_asked held.kept) body ≡ true → option_map_or (is_readable gate) (noted_in held body) false ≡ true
+  note_readable : (body : Body) → is_recorded held.kept (items_asked held.kept) body ≡ true → option_map_or (is_readable gate) (noted_in held body) false ≡ true
   note_readable body is =
-      let told = recorded_note (IsBefore gate) (items_asked held.kept) held.notes noted body is in
+      let told = recorded_note (IsBefore gate) held.kept (items_asked held.kept) held.notes noted.items noted.base body is in
       ap (λ b. option_map_or (is_readable gate) (cond b (note_of held.notes body) None) false) is ∙ ap (λ (o : Option Note). option_map_or (is_readable gate) o false) told.noted ∙ readable gate told.note told.lies.lies
 
   can_be_read : (i : Item) → IsToldOf held.kept i → needs_text i.deed ≡ true → is_told held gate c replaces (body_of i) ≡ true
@@ -186,7 +186,8 @@ module _ (held : Held) (gate c : ℕ) (replaces : List (ℕ × List ℕ)) (hones
 
   at_hand : (i : Item) → Own i → (o : Option (List ℕ)) → text_in i.deed ≡ o → is_some o ≡ true → text_at_hand held.kept (body_of i) ≡ text_in i.deed
   at_hand i own None is some = absurd (let wrong : ◌≡◌ {A = Bool} false true = some in cc)
-  at_hand i own (Some text) is some = kept_at_hand held.kept (body_of i) text (item_text held.kept.timeline i apart own ∙ is) ∙ sym is
+  at_hand i own (Some text) is some =
+      kept_at_hand held.kept (body_of i) text comes (with_first held.kept.texts held.kept.timeline (body_of i) text (item_text held.kept.timeline i apart own ∙ is)) ∙ sym is
 
   tells_own : (i : Item) → Own i → TellsOf Told i
   tells_own i own needs = (
@@ -303,7 +304,7 @@ module _ {D : Type 0} (told : D → DiskTold) where
   -- so is all that a cycle performs
   pub tells_asked : (held : Held) (gate at : ℕ) (ask : CycleAsk) (place : ℕ) → NumbersApart held.kept.timeline → TextsNoted gate held.notes held.kept → HasUndone held.kept
       → (disk : D) → TellsAll (told_first told (record { disk = disk; end = gate }) held held.kept.next ask.replaces) (repaired_items held.kept at ask place)
-  tells_asked held gate at ask place apart noted comes disk = tells_cycle held gate at ask (HoldsHeld (told disk) held) 0 apart noted comes (λ holds. holds.1.revs) place
+  tells_asked held gate at ask place apart noted comes disk = tells_cycle held gate at ask (HoldsHeld (told disk) held) 0 apart noted comes (λ holds. holds.1.revs.items) place
 
   -- and all that a withdrawal performs
   pub tells_restored : (held : Held) (gate : ℕ) (last : UndoneBehind) → held.kept.undone ≡ Some last → HasUndone held.kept → IsTimeline held.kept.house held.kept.timeline → NumbersApart (restored_items held.kept last)
@@ -330,10 +331,10 @@ module _ {D : Type 0} (told : D → DiskTold) where
       at_hand i texts own None has some = absurd (let wrong : ◌≡◌ {A = Bool} false true = some in cc)
       at_hand i texts own (Some text) has some =
           let kept = held.kept in
-          let back : Comes kept.house kept.base kept.timeline kept.next last = subst (ComesIf kept.house kept.base kept.timeline kept.next) is comes in
+          let back : Comes (origin_of kept) kept.timeline kept.next last = subst (ComesIf (origin_of kept) kept.timeline kept.next) is comes in
           let old : TextsComeBack kept.timeline last = subst (TextsComeIf kept.timeline) is texts in
-          subst (λ (o : Option UndoneBehind). text_of (kept.timeline ++ items_behind o) (body_of i) ≡ Some text) (sym is)
-          (texts_back kept.house kept.timeline last (body_of i) text timeline back.back old (item_text (restored_items kept last) i apart own ∙ has))
+          subst (λ (o : Option UndoneBehind). text_with kept.texts (kept.timeline ++ items_behind o) (body_of i) ≡ Some text) (sym is)
+          (with_first kept.texts (kept.timeline ++ last.later) (body_of i) text (texts_back kept.house kept.timeline last (body_of i) text timeline back.back old (item_text (restored_items kept last) i apart own ∙ has)))
           ∙ sym has
 
   -- and all that leads to a place of the timeline
@@ -342,7 +343,7 @@ module _ {D : Type 0} (told : D → DiskTold) where
   tells_timeline r past held replaces past_is held_is replaces_are cycle_is none apart noted comes =
       subst (λ (t : BodiesTold). TellsAll t held.kept.timeline) (sym (told_as r past held held.kept.next replaces past_is held_is replaces_are cycle_is none))
       (subst (TellsAll (told_first told past held held.kept.next replaces)) (take_all held.kept.timeline)
-      (tells_front held past.end held.kept.next replaces (HoldsHeld (told past.disk) held) 0 apart noted comes (λ holds. holds.1.revs) (length held.kept.timeline)))
+      (tells_front held past.end held.kept.next replaces (HoldsHeld (told past.disk) held) 0 apart noted comes (λ holds. holds.1.revs.items) (length held.kept.timeline)))
 
   -- a read failed exactly where a use of a reading says so
   pub bodies_cause : {X : Type 0} (old new : Reading D) (result : Result X BodiesFault) → LeadsOn told old new → old.failed ≡ 0 → Counts (reading_told told old) (reading_told told new) result

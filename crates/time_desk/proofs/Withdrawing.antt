@@ -24,7 +24,8 @@ use Rattle.shelf.specs.Marks.{marks_at_or_before}
 use Rattle.withdraw.specs.declared.undone.UndoneBehind.{UndoneBehind}
 use Rattle.withdraw.specs.Unediting.{as_shown}
 use Rattle.store_kept.specs.Coming.{ComesIf, HasUndone}
-use Rattle.store_kept.specs.Kept.{IsRun, Kept, newest_at, report_of, undone_as, undone_of}
+use Rattle.store_kept.specs.Bases.{HasBase}
+use Rattle.store_kept.specs.Kept.{IsRun, Kept, newest_at, origin_of, report_of, undone_as, undone_of}
 use Rattle.store_kept.specs.Texts.{items_asked, items_behind}
 use Rattle.replay_crew.specs.Hearing.{TellsAll}
 use Rattle.cycle_rules.specs.Asking.{Due, IsRewinds, NoNumbers, NoPoint, Repeats, Rewinds, due_by}
@@ -91,7 +92,7 @@ restored_long kept last le =
 pub restored_few : (kept : Kept) (of : ℕ) (last : UndoneBehind) → HasUndone kept → undone_of kept of ≡ Some last → length (restored_items kept last) ≤ length (items_asked kept)
 restored_few kept of last comes is =
     let undone = undone_is kept of last is in
-    let back = (subst (ComesIf kept.house kept.base kept.timeline kept.next) undone comes).back in
+    let back = (subst (ComesIf (origin_of kept) kept.timeline kept.next) undone comes).back in
     let front = take last.position kept.timeline in
     let later = map (as_shown (drop last.position kept.timeline)) last.later in
     let rest = drop last.placed kept.timeline in
@@ -384,7 +385,7 @@ module _ {D : Type 0} (told : D → DiskTold) (disk : D) (before after : Held) (
     -- its record was sealed, and what it leaves was put in place
     pub withdrawal_sealed : SealsPayloads (bytes ∷ []) [] (told old.disk) (told new.disk) old.gate new.gate → new.closed ≡ false → (IsRun before.kept → IsSound before.kept) → IsFit before.kept made
         → after.kept ≡ after_rewound before.kept key false made → after.marks ≡ marks_at_or_before made.place before.marks
-        → NotesNone (record { gate = old.gate; length = length bytes }) before.notes (asked_then before.kept false made) after.notes
+        → NotesNone (record { gate = old.gate; length = length bytes }) before.notes before.kept.texts (asked_then before.kept false made) after.notes
         → Seals told (Withdraw before.kept.next at key of ∷ []) [] First (lasting after new)
     withdrawal_sealed seals still sound fit kept_is marks_are notes =
         record_sealed told disk before after old new (Withdraw before.kept.next at key of) bytes reads open_ (sym bytes_are) due_record.truth (λ none. let wrong : ◌≡◌ {A = Bool} true false = none in cc)
@@ -400,7 +401,7 @@ module _ {D : Type 0} (told : D → DiskTold) (disk : D) (before after : Held) (
 
         lies : HoldsTexts told First → (payloads : List (List ℕ)) → LiesAt payloads old.gate (length bytes) bytes → TextsStored payloads before.notes before.kept → TextsStored payloads after.notes after.kept
         lies holds payloads at_place all =
-            withdrawal_lies before after at is.last (undone_is before.kept of is.last is.is_last) (HoldsTexts told First) made is.is_made fit.timeline.apart notes.0 notes.3 (ap items_asked kept_is) payloads holds all
+            withdrawal_lies before after at is.last (undone_is before.kept of is.last is.is_last) (HoldsTexts told First) made is.is_made fit.timeline.apart (sound holds.texts.runs).base notes.0 notes.3 key kept_is payloads holds all
 
     -- it was not
     pub withdrawal_unsealed : {X : Type 0} (fault : SealFault) (out : WithdrawFault) → SealsBytes {X = X} told bytes old new (Err fault) → (told old.disk).failed_reads ≡ (told disk).failed_reads → after.kept ≡ before.kept → after.notes ≡ before.notes → after.marks ≡ before.marks
@@ -419,11 +420,12 @@ module _ {D : Type 0} (told : D → DiskTold) (disk : D) (before after : Held) (
 
 -- the notes that it leaves lie before the gate behind it
 pub withdrawal_notes : (gate next : ℕ) (before after : Held) (at of : ℕ) (honest : Type 0) (made : Rewound) (place : Place) → gate ≤ next → IsWithdrawn before.kept at of honest made → IsFit before.kept made
-    → items_asked after.kept ≡ asked_then before.kept false made → NotesNone place before.notes (asked_then before.kept false made) after.notes → SizesOf after.notes (asked_then before.kept false made)
+    → HasBase before.kept → (key : List ℕ) → after.kept ≡ after_rewound before.kept key false made → NotesNone place before.notes before.kept.texts (asked_then before.kept false made) after.notes
+    → SizesOf after.notes before.kept.texts (asked_then before.kept false made)
     → TextsNoted gate before.notes before.kept → TextsNoted next after.notes after.kept
-withdrawal_notes gate next before after at of honest made place later is fit put notes sizes noted =
-    withdrawal_noted before after at is.last (undone_is before.kept of is.last is.is_last) honest made is.is_made fit.timeline.apart notes.0 notes.3 put next sizes
-    (noted_later gate next before.notes (items_asked before.kept) later noted)
+withdrawal_notes gate next before after at of honest made place later is fit base key put notes sizes noted =
+    withdrawal_noted before after at is.last (undone_is before.kept of is.last is.is_last) honest made is.is_made fit.timeline.apart base notes.0 notes.3 key put next sizes
+    (noted_later gate next before.notes before.kept later noted)
 
 -- ---- which writes found memory
 

@@ -155,7 +155,7 @@ pub record RedoesCycle {D : Type 0} (told : D → DiskTold) (held : Held) (at : 
 pub record RenotesAs (old : Held) (ask : CycleAsk) (at : ℕ) (place : Place) (made : Rewound) (notes : List (Body × Note)) : Type 0 where
   pub fresh : Fresh
   pub is_fresh : IsFresh old.kept.next at ask place (record_bytes (Cycle old.kept.next at ask)) fresh
-  pub renotes : Renotes old.notes fresh (asked_then old.kept true made) notes
+  pub renotes : Renotes old.notes fresh old.kept.texts (asked_then old.kept true made) notes
 
 -- a refusal of a cycle in memory, as it is told
 abbrev pub IsTold : CycleRefused → CycleFault → Type 0

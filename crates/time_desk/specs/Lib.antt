@@ -2,5 +2,10 @@ pub mod Cycling
 pub mod Withdrawing
 pub mod Serving
 pub mod Planning
+pub mod Replaying
 pub mod Opening
 pub mod Standing
+pub mod Lending
+pub mod Auditing
+pub mod Cutting
+pub mod Fronts

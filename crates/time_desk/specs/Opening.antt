@@ -1,50 +1,92 @@
 -- What an image opens as, and what becomes of a disk on which a journal is opened.
-use Rattle.std.specs.Prelude.{◌≡◌, ◌⊎◌, ◌<◌, ℕ, List, [], ◌∷◌, ◌++◌, length, Option, Some, None, Result, Ok, Err, IsErrOf}
+use Rattle.std.specs.Prelude.{◌≡◌, ◌⊎◌, ◌<◌, ℕ, Bool, false, not, ◌&&◌, ◌||◌, List, [], ◌∷◌, ◌++◌, length, take, is_some, Option, Some, None, Result, Ok, Err, IsErrOf}
 use Rattle.std.specs.List.{AllByRecursion}
 use Rattle.undo_outside.specs.Disk.{DiskTold, ReadFailed, WriteFailed}
 use Rattle.undo_outside.specs.Moments.{LeavesOnly}
+use Rattle.verb_core.specs.Names.{is_empty}
 use Rattle.verb_bytes.specs.declared.journal.JournalRecord.{JournalRecord}
 use Rattle.verb_bytes.specs.Spelling.{Spells}
 use Rattle.seal_log.specs.Causes.{SameCounts}
-use Rattle.seal_log.specs.Journal.{frame, sealed, IsPayload}
+use Rattle.seal_log.specs.Journal.{frame, sealed, BeginsClosed, IsPayload}
 use Rattle.seal_log.specs.Loading.{BeginsCut, IsNotFormatted}
 use Rattle.seal_log.specs.Settled.{IsSettled}
 use Rattle.store_kept.specs.Kept.{Kept}
 use Rattle.time_desk.specs.declared.fault.StartFault.{StartFault}
 use Rattle.time_desk.specs.declared.fault.StartFault.TheVariants.{NotFormatted, Damaged, Disk, NoMemory}
-use Rattle.desk_journal.specs.Records.{Leaves, StandsForRecords, after_record, opening_state, payloads_of, state}
+use Rattle.desk_journal.specs.Founding.{Fore, behind, first_fore, fore_of, goes_on, own, settled}
+use Rattle.desk_journal.specs.Records.{Leaves, StandsForRecords, after_record, payloads_of, state}
 
 -- ---- damage
 
--- the payload spells no record that comes to something
-abbrev pub SpellsNone : (JournalRecord → Option Kept) → List ℕ → Type 0
-SpellsNone due payload = (what : JournalRecord) → Spells what payload → due what ≡ None
+-- the payload spells no record that passes
+abbrev pub SpellsNone : (JournalRecord → Bool) → List ℕ → Type 0
+SpellsNone stands payload = (what : JournalRecord) → Spells what payload → stands what ≡ false
 
--- an open gate, a frame and a gate stand first, and the payload spells no record that comes to something
-pub record BeginsBad (due : JournalRecord → Option Kept) (bytes : List ℕ) : Type 0 where
+-- an open gate, a frame and a gate stand first, and the payload spells no record that passes
+pub record BeginsBad (stands : JournalRecord → Bool) (bytes : List ℕ) : Type 0 where
   pub payload : List ℕ
   pub more : List ℕ
   pub split : bytes ≡ 85 ∷ (frame payload ++ more)
   pub fits : IsPayload payload
   pub some : 0 < length more
-  pub stands_none : SpellsNone due payload
+  pub stands_none : SpellsNone stands payload
 
--- an open gate stands first, and behind it no record that comes to something: its frame and the next gate are not within the
--- bytes, or its payload spells none
-abbrev pub BeginsBroken : (JournalRecord → Option Kept) → List ℕ → Type 0
-BeginsBroken due bytes = BeginsCut bytes ⊎ BeginsBad due bytes
+-- an open gate stands first, and behind it no record that passes: its frame and the next gate are not within the bytes, or its
+-- payload spells none
+abbrev pub BeginsBroken : (JournalRecord → Bool) → List ℕ → Type 0
+BeginsBroken stands bytes = BeginsCut bytes ⊎ BeginsBad stands bytes
 
--- what a journal's front of one record leaves
-abbrev pub opened_by : JournalRecord → Option Kept
-opened_by what = opening_state (what ∷ [])
+-- These records are what was read of a journal's front, and this is what they have; or none was read.
+abbrev pub IsFore : List JournalRecord → Option Fore → Type 0
+IsFore records None = records ≡ []
+IsFore records (Some f) = fore_of records ≡ Some f
 
--- The image does not begin with what a journal opens with. Its front is judged as one: it is one record, so the place is that of
--- the first gate.
+-- whether a record can stand behind them by its own rules: it goes on with the front, or it is of another kind, and the front is over
+abbrev pub fits : Option Fore → JournalRecord → Bool
+fits None what = is_some (first_fore what)
+fits (Some f) what = not (goes_on what) || is_some (own f what)
+
+-- The front is broken: behind what was read of it an open gate stands at this place, and behind it neither a record that goes on with
+-- it nor one of another kind.
 pub record IsDamagedInFront (image : List ℕ) (place : ℕ) : Type 0 where
-  pub place_is : place ≡ 0
-  pub bad : BeginsBroken opened_by image
+  pub records : List JournalRecord
+  pub fore : Option Fore
+  pub is_fore : IsFore records fore
+  pub rest : List ℕ
+  pub split : image ≡ sealed (payloads_of records) ++ rest
+  pub short : AllByRecursion IsPayload (payloads_of records)
+  pub place_is : place ≡ length (sealed (payloads_of records))
+  pub bad : BeginsBroken (fits fore) rest
 
--- Behind records that leave this, an open gate stands at this place, and behind it no record that can follow.
+-- an open gate, a frame and a gate stand first, and the payload spells a record that no front goes on with
+pub record BeginsOther (bytes : List ℕ) : Type 0 where
+  pub payload : List ℕ
+  pub more : List ℕ
+  pub split : bytes ≡ 85 ∷ (frame payload ++ more)
+  pub short : IsPayload payload
+  pub some : 0 < length more
+  pub what : JournalRecord
+  pub spells : Spells what payload
+  pub other : goes_on what ≡ false
+
+-- The front is over, and its base lacks what was to stand behind it: the text of a body that it names, or the mailboxes that its stamps
+-- name. The place is the gate of the Base, a journal's second record.
+pub record IsDamagedInBase (image : List ℕ) (place : ℕ) : Type 0 where
+  pub records : List JournalRecord
+  pub fore : Fore
+  pub is_fore : fore_of records ≡ Some fore
+  pub lacks : settled fore ≡ None
+  pub rest : List ℕ
+  pub split : image ≡ sealed (payloads_of records) ++ rest
+  pub short : AllByRecursion IsPayload (payloads_of records)
+  pub place_is : place ≡ length (sealed (payloads_of (take 1 records)))
+  pub over : BeginsClosed rest ⊎ BeginsOther rest
+
+-- whether a record can stand behind records that leave this: it can follow, or it goes on with them, where they are a front
+abbrev pub can_come : List JournalRecord → Kept → JournalRecord → Bool
+can_come records kept what = (is_empty (behind records) && goes_on what) || is_some (after_record kept what)
+
+-- Behind records that leave this, an open gate stands at this place, and behind it no record that can stand there.
 pub record IsDamagedBehind (image : List ℕ) (place : ℕ) : Type 0 where
   pub records : List JournalRecord
   pub rest : List ℕ
@@ -53,11 +95,11 @@ pub record IsDamagedBehind (image : List ℕ) (place : ℕ) : Type 0 where
   pub kept : Kept
   pub state_is : state records ≡ Some kept
   pub place_is : place ≡ length (sealed (payloads_of records))
-  pub bad : BeginsBroken (after_record kept) rest
+  pub bad : BeginsBroken (can_come records kept) rest
 
--- the image is damaged at a place: in its front, or behind it
+-- the image is damaged at a place: in its front, in its base, or behind them
 abbrev pub IsDamaged : List ℕ → ℕ → Type 0
-IsDamaged image place = IsDamagedInFront image place ⊎ IsDamagedBehind image place
+IsDamaged image place = IsDamagedInFront image place ⊎ IsDamagedInBase image place ⊎ IsDamagedBehind image place
 
 -- ---- the answer that is due
 

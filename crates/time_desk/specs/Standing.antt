@@ -1,5 +1,5 @@
 -- Payloads that are read in order, and the records that stand one behind the other.
-use Rattle.std.specs.Prelude.{◌≡◌, ◌⊎◌, ◌≤◌, ◌+◌, ℕ, Bool, true, false, ◌&&◌, not, List, ◌∷◌, ◌++◌, length, Option, Some, None, IsTrue, if◌then◌else◌}
+use Rattle.std.specs.Prelude.{◌≡◌, ◌⊎◌, ◌≤◌, ◌+◌, ℕ, Bool, true, false, ◌&&◌, not, List, [], ◌∷◌, ◌++◌, length, take, Option, Some, None, IsTrue, if◌then◌else◌}
 use Rattle.std.specs.List.{list_all}
 use Rattle.undo_base.specs.declared.keys.User.{User}
 use Rattle.verb_core.specs.declared.conf.Conf.{Conf}
@@ -17,11 +17,13 @@ use Rattle.seal_log.specs.declared.place.Place.{Place}
 use Rattle.shelf.specs.Marks.{with_mark}
 use Rattle.mail_desk.specs.Held.{Held}
 use Rattle.store_kept.specs.Kept.{new_desk, passed, performed, snapshotted, Kept}
+use Rattle.store_kept.specs.Texts.{items_asked}
 use Rattle.house_text.specs.Beginning.{can_begin}
 use Rattle.time_desk.specs.declared.fault.StartFault.{StartFault}
 use Rattle.time_desk.specs.declared.fault.StartFault.TheVariants.{NotFormatted, Damaged, Disk, NoMemory}
-use Rattle.time_desk.specs.Opening.{SpellsNone, opened_by}
-use Rattle.desk_journal.specs.Records.{after_record, after_records, behind, can_follow, front, opening_state, payloads_of, state}
+use Rattle.time_desk.specs.Opening.{IsFore, SpellsNone, can_come, fits}
+use Rattle.desk_journal.specs.Founding.{Fore, behind, fore_of, front, goes_on, opening_state, settled}
+use Rattle.desk_journal.specs.Records.{after_record, after_records, can_follow, payloads_of, state}
 
 -- ---- one record
 
@@ -58,6 +60,13 @@ abbrev pub marked_as : Held → Bool → Place → List (ℕ × Place)
 marked_as old true place = with_mark (length old.kept.timeline) place old.marks
 marked_as old false place = old.marks
 
+-- the same texts may be asked for, and each is noted where it was
+pub record AsksAlike (old new : Held) : Type 0 where
+  pub notes : new.notes ≡ old.notes
+  pub items : items_asked new.kept ≡ items_asked old.kept
+  pub texts : new.kept.texts ≡ old.kept.texts
+  pub first : new.kept.first ≡ old.kept.first
+
 -- a record was performed where it can stand, and nothing was done where it can't
 abbrev pub Performs : Option Kept → Bool → Kept → Type 0
 Performs due true new = due ≡ Some new
@@ -86,10 +95,14 @@ FailsReading none gate (Damaged place) = none × (place ≡ gate)
 FailsReading none gate Disk = Unit {0}
 FailsReading none gate NoMemory = Unit {0}
 
--- the payload spells no record that comes to something, and that is told of its gate
+-- the payload spells no record that comes to something
+abbrev pub ComesToNone : (JournalRecord → Option Kept) → List ℕ → Type 0
+ComesToNone due payload = (what : JournalRecord) → Spells what payload → due what ≡ None
+
+-- and that is told of its gate
 abbrev pub FailsPayload : (JournalRecord → Option Kept) → List ℕ → ℕ → StartFault → Type 0
 FailsPayload due payload gate NotFormatted = ⊥
-FailsPayload due payload gate (Damaged place) = SpellsNone due payload × (place ≡ gate)
+FailsPayload due payload gate (Damaged place) = ComesToNone due payload × (place ≡ gate)
 FailsPayload due payload gate Disk = Unit {0}
 FailsPayload due payload gate NoMemory = Unit {0}
 
@@ -122,7 +135,7 @@ pub record StopsAt (kept : Kept) (gate : ℕ) (payloads : List (List ℕ)) (plac
   pub split : payloads ≡ first ++ payload ∷ after
   pub mid : Kept
   pub leads : LeadsTo kept first mid
-  pub stands_none : SpellsNone (after_record mid) payload
+  pub stands_none : ComesToNone (after_record mid) payload
   pub place_is : place ≡ gate + length (sealed first)
 
 -- why the payloads do not lead on from what is kept
@@ -151,15 +164,46 @@ pub record Opens (payloads : List (List ℕ)) (kept : Kept) (places : List Place
   pub behinds : (more : List JournalRecord) (rest : List (List ℕ)) → others ≡ payloads_of more ++ rest → behind (records ++ more) ≡ more
   pub places_are : places ≡ places_from (length (sealed (payloads_of records))) others
 
--- A journal's payloads do not begin with what it can open with. The front is one record, and its gate is the first.
+-- ---- a journal's payloads that leave nothing
+
+-- The front is broken: the first payloads spell what was read of it, and the next spells neither a record that goes on with it nor
+-- one of another kind; its gate is here.
 pub record BreaksInFront (payloads : List (List ℕ)) (place : ℕ) : Type 0 where
+  pub records : List JournalRecord
+  pub fore : Option Fore
+  pub is_fore : IsFore records fore
   pub payload : List ℕ
   pub after : List (List ℕ)
-  pub split : payloads ≡ payload ∷ after
-  pub stands_none : SpellsNone opened_by payload
-  pub place_is : place ≡ 0
+  pub split : payloads ≡ payloads_of records ++ payload ∷ after
+  pub stands_none : SpellsNone (fits fore) payload
+  pub place_is : place ≡ length (sealed (payloads_of records))
 
--- the first payloads spell records that leave this, and the next spells none that can follow; its gate is here
+-- behind a front all payloads were read, and no frame that is cut stands there; or the next spells a record of another kind
+abbrev pub IsOver : Bool → List (List ℕ) → Type 0
+IsOver cut [] = cut ≡ false
+IsOver cut (payload ∷ payloads) = (what : JournalRecord) × Spells what payload × (goes_on what ≡ false)
+
+-- The first payloads spell a front whose base lacks what was to stand behind it; the gate of the Base is here.
+pub record BreaksInBase (cut : Bool) (payloads : List (List ℕ)) (place : ℕ) : Type 0 where
+  pub records : List JournalRecord
+  pub fore : Fore
+  pub is_fore : fore_of records ≡ Some fore
+  pub lacks : settled fore ≡ None
+  pub others : List (List ℕ)
+  pub split : payloads ≡ payloads_of records ++ others
+  pub over : IsOver cut others
+  pub place_is : place ≡ length (sealed (payloads_of (take 1 records)))
+
+-- all payloads spell what was read of a front, and behind them, here, stands a frame that is cut
+pub record BreaksAtEnd (cut : Bool) (end : ℕ) (payloads : List (List ℕ)) (place : ℕ) : Type 0 where
+  pub is_cut : cut ≡ true
+  pub records : List JournalRecord
+  pub fore : Option Fore
+  pub is_fore : IsFore records fore
+  pub split : payloads ≡ payloads_of records
+  pub place_is : place ≡ end
+
+-- the first payloads spell records that leave this, and the next spells none that can stand behind them; its gate is here
 pub record BreaksBehind (payloads : List (List ℕ)) (place : ℕ) : Type 0 where
   pub records : List JournalRecord
   pub payload : List ℕ
@@ -167,23 +211,27 @@ pub record BreaksBehind (payloads : List (List ℕ)) (place : ℕ) : Type 0 wher
   pub split : payloads ≡ payloads_of records ++ payload ∷ after
   pub kept : Kept
   pub state_is : state records ≡ Some kept
-  pub stands_none : SpellsNone (after_record kept) payload
+  pub stands_none : SpellsNone (can_come records kept) payload
   pub place_is : place ≡ length (sealed (payloads_of records))
 
+-- a journal does not begin with what it can open with: its front is broken, its base lacks something, or the journal ends within it
+abbrev pub FrontBreaks : Bool → ℕ → List (List ℕ) → ℕ → Type 0
+FrontBreaks cut end payloads place = BreaksInFront payloads place ⊎ BreaksInBase cut payloads place ⊎ BreaksAtEnd cut end payloads place
+
 -- a journal's payloads leave nothing: the front does not, or one of those behind it can't follow
-abbrev pub BreaksAt : List (List ℕ) → ℕ → Type 0
-BreaksAt payloads place = BreaksInFront payloads place ⊎ BreaksBehind payloads place
+abbrev pub BreaksAt : Bool → ℕ → List (List ℕ) → ℕ → Type 0
+BreaksAt cut end payloads place = FrontBreaks cut end payloads place ⊎ BreaksBehind payloads place
 
--- why a journal's payloads do not begin with what it can open with
-abbrev pub FrontBreaksFor : List (List ℕ) → StartFault → Type 0
-FrontBreaksFor payloads NotFormatted = ⊥
-FrontBreaksFor payloads (Damaged place) = BreaksInFront payloads place
-FrontBreaksFor payloads Disk = Unit {0}
-FrontBreaksFor payloads NoMemory = Unit {0}
+-- why a journal's payloads do not begin with what it can open with, where a frame that is cut stands behind them here, or none
+abbrev pub FrontBreaksFor : Bool → ℕ → List (List ℕ) → StartFault → Type 0
+FrontBreaksFor cut end payloads NotFormatted = ⊥
+FrontBreaksFor cut end payloads (Damaged place) = FrontBreaks cut end payloads place
+FrontBreaksFor cut end payloads Disk = Unit {0}
+FrontBreaksFor cut end payloads NoMemory = Unit {0}
 
--- why a journal's payloads leave nothing
-abbrev pub BreaksFor : List (List ℕ) → StartFault → Type 0
-BreaksFor payloads NotFormatted = ⊥
-BreaksFor payloads (Damaged place) = BreaksAt payloads place
-BreaksFor payloads Disk = Unit {0}
-BreaksFor payloads NoMemory = Unit {0}
+-- why they leave nothing
+abbrev pub BreaksFor : Bool → ℕ → List (List ℕ) → StartFault → Type 0
+BreaksFor cut end payloads NotFormatted = ⊥
+BreaksFor cut end payloads (Damaged place) = BreaksAt cut end payloads place
+BreaksFor cut end payloads Disk = Unit {0}
+BreaksFor cut end payloads NoMemory = Unit {0}

@@ -1,5 +1,5 @@
 //! What a cycle begins with: the newest snapshot in the journal that can serve, or else the store before the first item.
-ghost use Rattle.std.specs.Prelude.{◌≡◌, ◌<◌, ◌≤◌, ◌+◌, ℕ, List, Some, take, length, option_map, IfOk, IfSome, IsErrOf};
+ghost use Rattle.std.specs.Prelude.{◌≡◌, ◌<◌, ◌≤◌, ◌+◌, ℕ, false, List, [], Some, None, Ok, take, length, option_map, IfOk, IfSome, IsErrOf, IsTrue};
 ghost use Rattle.std.specs.List.{AllByRecursion, list_all};
 ghost use Rattle.verb_core.specs.declared.mailbox.Entry.{Entry as TheEntry};
 ghost use Rattle.verb_bytes.specs.declared.journal.JournalRecord.{JournalRecord as TheRecord};
@@ -8,6 +8,7 @@ ghost use Rattle.seal_log.specs.Causes.{ReadAtCause};
 ghost use Rattle.seal_log.specs.Journal.{LiesAt};
 ghost use Rattle.seal_log.specs.Settled.{Holds};
 ghost use Rattle.time_desk.specs.Serving.{BeginsBy, CanServe, FindsLast, FindsNewest, IsNewest, Serves, ServesBy, SpelledBy, bytes_at, can_serve as serves, rows_in, store_from, store_in};
+ghost use Rattle.time_desk.specs.Replaying.{some_marked};
 ghost use Rattle.desk_journal.specs.Stored.{MarkLies, MarkedBefore, MarksLie, store_at};
 ghost use Rattle.desk_journal.specs.Telling.{HoldsHeld, IsPastRead};
 ghost use Rattle.store_kept.specs.Texts.{all_bodies, has_text_among};
@@ -195,6 +196,7 @@ fn newest<D: Disk>(
     ensures newest { (payloads : List (List ℕ)) → Holds (D.told past.old.disk) payloads → MarksLie payloads desk.now.kept marks.now
         → IfOk result (FindsLast desk.now.kept marks.now) }
     ensures passes { (D.told past.old.disk).honest → IfOk result (FindsNewest (D.told past.old.disk) desk.now.kept marks.now) }
+    ensures none { marks.now ≡ [] → result ≡ Ok None }
     ensures cause { ReadAtCause (D.told past.old.disk) (D.told past.new.disk) result }
     ensures still { IsPastRead D.told past.old past.new }
 {
@@ -250,6 +252,8 @@ pub(crate) fn beginning<D: Disk>(
     ensures serves { IfOk result (Serves desk.now.kept place) }
     ensures newest { HoldsHeld (D.told past.old.disk) desk.now → IfOk result (IsNewest desk.now.kept place) }
     ensures passes { (D.told past.old.disk).honest → IfOk result (BeginsBy (D.told past.old.disk) desk.now place) }
+    ensures first { some_marked desk.now.kept place ≡ false → IfOk result (λ first. (first.count ≡ 0) × (first.store.store ≡ desk.now.kept.base)) }
+    ensures due { IsErrOf result ReadFault.Disk → IsTrue (some_marked desk.now.kept place) }
     ensures cause { ReadAtCause (D.told past.old.disk) (D.told past.new.disk) result }
     ensures still { IsPastRead D.told past.old past.new }
 {

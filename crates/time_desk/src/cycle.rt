@@ -116,7 +116,7 @@ pub(crate) fn ready_with(
     ensures same_marks { desk.new.marks ≡ desk.old.marks }
     ensures made { IfOk result (λ found. remade_as desk.old.kept found.remade ≡ after_rewound desk.old.kept key undoes made) }
     ensures report { IfOk result (λ found. found.report ≡ made.report) }
-    ensures notes { IfOk result (λ found. Renotes desk.old.notes fresh.now (asked_then desk.old.kept undoes made) found.remade.shelf.notes) }
+    ensures notes { IfOk result (λ found. Renotes desk.old.notes fresh.now desk.old.kept.texts (asked_then desk.old.kept undoes made) found.remade.shelf.notes) }
     ensures place { IfOk result (λ found. found.remade.left.place ≡ made.place) }
     ensures ready { IfOk result (λ found. CanReplace found.remade desk.new) }
     ensures bytes { IfOk result (λ found. found.bytes ≡ bytes) }

@@ -18,19 +18,19 @@ ghost use Rattle.mail_cycle.specs.Permanence.{UidsLast, UidsStay};
 ghost use Rattle.store_kept.specs.Coming.{HasUndoneTexts};
 ghost use Rattle.store_kept.specs.Kept.{IsRun, Kept, stamp_at};
 ghost use Rattle.desk_journal.specs.Permanence.{Arrives, IsAccounted, IsSound, Message, RevsBelow, message_at};
-ghost use Rattle.desk_journal.specs.Records.{after_records, is_withdrawal, state};
+ghost use Rattle.desk_journal.specs.Records.{after_records, front, goes_on, is_withdrawal, state};
 
 use mail_desk::laws::bodies_have_texts;
 
 /// What a journal's records leave is sound, each text has a rev below the next number, the texts of what the last cycle left to be
-/// withdrawn can come back, and the store is what the items in force leave, performed one after the other, from the opening store
-/// on.
+/// withdrawn can come back, and the store is what the items in force leave, performed one after the other, from the base on: the
+/// opening store, where no record is of a past that was cut off.
 pub fn states_are_sound()
     ensures sound { (records : List JournalRecord) (kept : Kept) → state records ≡ Some kept → IsSound kept }
     ensures revs { (records : List JournalRecord) (kept : Kept) → state records ≡ Some kept → RevsBelow kept }
     ensures back { (records : List JournalRecord) (kept : Kept) → state records ≡ Some kept → HasUndoneTexts kept }
     ensures runs { (records : List JournalRecord) (kept : Kept) → state records ≡ Some kept → IsRun kept }
-    ensures opening { (records : List JournalRecord) (kept : Kept) → state records ≡ Some kept → kept.base ≡ opening kept.house kept.opening }
+    ensures opening { (records : List JournalRecord) (kept : Kept) → state records ≡ Some kept → list_any goes_on records ≡ false → kept.base ≡ opening kept.house kept.opening }
 {}
 
 /// Whatever records come next, what is kept stays sound, its texts stay where they are known to, and what a client knows by UID
@@ -49,9 +49,10 @@ pub fn records_let_uids_last()
 
 /// A user, name, UIDVALIDITY and UID never name two messages or two contents (RFC 3501, section 2.3.1.1): not behind whatever
 /// more records, verbs, acts, cycles and withdrawals, and not of two desks that let UIDs last. Each message that is named has a text.
+/// A journal promises nothing before all is in it that it opens with: nobody serves it then.
 pub fn uids_name_one_message()
-    ensures records { (front more : List JournalRecord) (old new : Kept) (id : BoxId) (stamp uid : ℕ) (m n : Message) →
-        state front ≡ Some old → state (front ++ more) ≡ Some new →
+    ensures records { (first more : List JournalRecord) (old new : Kept) (id : BoxId) (stamp uid : ℕ) (m n : Message) →
+        state first ≡ Some old → state (first ++ more) ≡ Some new → front (first ++ more) ≡ front first →
         message_at old id stamp uid ≡ Some m → message_at new id stamp uid ≡ Some n → m ≡ n }
     ensures text { (records : List JournalRecord) (kept : Kept) (id : BoxId) (stamp uid : ℕ) (m : Message) →
         state records ≡ Some kept → message_at kept id stamp uid ≡ Some m → IsSome m.text }
@@ -61,10 +62,11 @@ pub fn uids_name_one_message()
     bodies_have_texts();
 }
 
-/// A stamp that a mailbox lost is never its stamp again.
+/// A stamp that a mailbox lost is never its stamp again, once all is there that the journal opens with.
 pub fn lost_stamps_stay_lost()
-    ensures { (front mid more : List JournalRecord) (early middle late : Kept) (id : BoxId) (stamp : ℕ) →
-        state front ≡ Some early → state (front ++ mid) ≡ Some middle → state (front ++ mid ++ more) ≡ Some late →
+    ensures { (first mid more : List JournalRecord) (early middle late : Kept) (id : BoxId) (stamp : ℕ) →
+        state first ≡ Some early → state (first ++ mid) ≡ Some middle → state (first ++ mid ++ more) ≡ Some late →
+        front (first ++ mid) ≡ front first → front (first ++ mid ++ more) ≡ front first →
         stamp_at early id ≡ Some stamp → stamp_at middle id ≢ Some stamp → stamp_at late id ≢ Some stamp }
 {}
 

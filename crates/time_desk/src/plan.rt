@@ -1,5 +1,5 @@
 //! What the operator asks of the items later than a point: which of them could be done side by side.
-ghost use Rattle.std.specs.Prelude.{◌≡◌, ◌++◌, ◌∷◌, [], List, ◌<◌, ◌≤◌, length, map, take, drop, IfErr, IfOk, OnOk};
+ghost use Rattle.std.specs.Prelude.{◌≡◌, ◌⊎◌, ◌++◌, ◌∷◌, [], List, ◌<◌, ◌≤◌, false, length, map, take, drop, IfErr, IfOk, IsErrOf, IsTrue, OnOk};
 ghost use Rattle.std.specs.List.{AllByRecursion};
 ghost use Rattle.verb_core.specs.Items.{IsWellFormed};
 ghost use Rattle.verb_core.specs.Step.{run};
@@ -12,12 +12,14 @@ ghost use Rattle.replay_plan.specs.Placing.{levels_of};
 ghost use Rattle.replay_crew.specs.Hearing.{Counts, HoldsOf, StoresOf, TellsAll};
 ghost use Rattle.replay_crew.specs.Resolving.{AreResolvedFrom};
 ghost use Rattle.time_desk.specs.Planning.{BodiesCause, Plans, PlansNone, plan_at, plan_from, resolved, resolved_on};
+ghost use Rattle.time_desk.specs.Replaying.{reads_behind, some_deliver};
 ghost use Rattle.desk_journal.specs.Reading.{IsStill};
 ghost use Rattle.time_desk.specs.Serving.{Serves};
 ghost use Rattle.desk_journal.specs.Stored.{HoldsTexts, MarkedBefore, TextsNoted, store_at};
 ghost use Rattle.desk_journal.specs.Telling.{HoldsHeld, IsOnlyRead, IsPastRead};
 
 use crate::beginning::beginning;
+use crate::deliveries::Deliveries;
 use crate::redo::new_texts;
 use crate::{CycleFault, Desk};
 use box_store::Store;
@@ -35,7 +37,7 @@ use undo_outside::Disk;
 use verb_core::{Bodies, BodiesFault};
 
 /// Copies of items.
-fn copies(alloc: Global, items: &[StoredItem]) -> Result<Vec<StoredItem>, NoMemory>
+pub(crate) fn copies(alloc: Global, items: &[StoredItem]) -> Result<Vec<StoredItem>, NoMemory>
     ensures { IfOk result (λ copies. copies.items ≡ items.now) }
 {
     let mut copies = Vec::new(alloc);
@@ -166,13 +168,16 @@ fn plan_reading<D: Disk>(
     requires noted { TextsNoted past.old.end desk.now.notes desk.now.kept }
     requires place { place ≤ length desk.now.kept.timeline }
     requires serves { Serves desk.now.kept place first.now }
-    ensures text { HoldsHeld (D.told past.old.disk) desk.now → first.now.store.store ≡ store_at desk.now.kept first.now.count → IfOk result (λ text. text ≡ plan_at desk.now.kept place) }
+    ensures text { HoldsHeld (D.told past.old.disk) desk.now ⊎ (some_deliver desk.now.kept.timeline ≡ false) → first.now.store.store ≡ store_at desk.now.kept first.now.count
+        → IfOk result (λ text. text ≡ plan_at desk.now.kept place) }
+    ensures due { IsErrOf result BodiesFault.Failed → IsTrue (some_deliver desk.now.kept.timeline) }
     ensures cause { BodiesCause (D.told past.old.disk) (D.told past.new.disk) result }
     ensures still { IsPastRead D.told past.old past.new }
 {
     desk.stands();
     let texts = new_texts(alloc, &[])?;
-    let mut bodies = Reading::of(past, desk, &texts, desk.next());
+    let reading = Reading::of(past, desk, &texts, desk.next());
+    let mut bodies = Deliveries { reading };
     plan_behind(alloc, desk, first, &mut bodies, place)
 }
 
@@ -186,7 +191,8 @@ fn plan_from_newest<D: Disk>(
     requires noted { TextsNoted past.old.end desk.now.notes desk.now.kept }
     requires marked { MarkedBefore past.old.end desk.now.marks }
     requires place { place ≤ length desk.now.kept.timeline }
-    ensures text { HoldsHeld (D.told past.old.disk) desk.now → IfOk result (λ text. text ≡ plan_at desk.now.kept place) }
+    ensures text { HoldsHeld (D.told past.old.disk) desk.now ⊎ (reads_behind desk.now.kept place ≡ false) → IfOk result (λ text. text ≡ plan_at desk.now.kept place) }
+    ensures due { IsErrOf result BodiesFault.Failed → IsTrue (reads_behind desk.now.kept place) }
     ensures cause { BodiesCause (D.told past.old.disk) (D.told past.new.disk) result }
     ensures still { IsPastRead D.told past.old past.new }
 {

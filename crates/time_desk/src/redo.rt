@@ -394,7 +394,7 @@ pub(crate) fn remade(
     ensures same_marks { desk.new.marks ≡ desk.old.marks }
     ensures made { IfOk result (λ remade. remade_as desk.old.kept remade ≡ after_rewound desk.old.kept key undoes made) }
     ensures report { IfOk result (λ remade. remade.left.report ≡ made.report) }
-    ensures notes { IfOk result (λ remade. Renotes desk.old.notes fresh.now (asked_then desk.old.kept undoes made) remade.shelf.notes) }
+    ensures notes { IfOk result (λ remade. Renotes desk.old.notes fresh.now desk.old.kept.texts (asked_then desk.old.kept undoes made) remade.shelf.notes) }
     ensures place { IfOk result (λ remade. remade.left.place ≡ made.place) }
     ensures ready { IfOk result (λ remade. CanReplace remade desk.new) }
 {

@@ -1,5 +1,5 @@
-//! Records that can stand: the first of a journal, and each behind it, performed. Where the texts of a record lie is noted.
-ghost use Rattle.std.specs.Prelude.{◌≡◌, ◌==◌, ◌≤◌, ◌<◌, ◌+◌, List, ℕ, true, false, bytes_eq, is_none, length, IsTrue, IfOk, OnOk, IsErrOf, option_map};
+//! Records that can stand behind what a journal opens with, performed. Where the texts of a record lie is noted.
+ghost use Rattle.std.specs.Prelude.{◌≡◌, ◌==◌, ◌≤◌, ◌<◌, ◌+◌, List, ℕ, true, false, bytes_eq, is_none, length, IsTrue, IfOk, OnOk, IsErrOf};
 ghost use Rattle.std.specs.List.{list_all};
 ghost use Rattle.verb_core.specs.Items.{text_in, users_in};
 ghost use Rattle.verb_core.specs.Store.{is_known as knows};
@@ -15,15 +15,15 @@ ghost use Rattle.cycle_rules.specs.Asking.{after_cycle, due_anew};
 ghost use Rattle.cycle_rules.specs.Withdrawals.{after_withdrawal, withdraw_due_anew};
 ghost use Rattle.mail_desk.specs.Timeline.{NotesText, SizesOf, body_of};
 ghost use Rattle.time_desk.specs.Cycling.{CanBeUndone, IsFit, after_rewound, asked_then};
-ghost use Rattle.desk_journal.specs.Records.{format_of, after_cycle_record, after_due, after_record, after_withdraw_record, can_follow as follows, can_keep as keeps, can_rewind as rewinds, first_state, is_true as tells_all, snapshot_record};
-ghost use Rattle.time_desk.specs.Standing.{Enters, IsFormed, Performs, begun, has_users as uses, is_actor, kept_as, marked_as};
+ghost use Rattle.desk_journal.specs.Records.{after_cycle_record, after_due, after_record, after_withdraw_record, can_follow as follows, can_keep as keeps, can_rewind as rewinds, is_formed as formed, is_true as tells_all, snapshot_record};
+ghost use Rattle.time_desk.specs.Auditing.{Judges};
+ghost use Rattle.time_desk.specs.Standing.{AsksAlike, Enters, IsFormed, Performs, has_users as uses, is_actor, kept_as, marked_as};
 ghost use Rattle.desk_journal.specs.Stored.{AreNoted, KeepsMarks, MarksLie, NotesCycle, NotesNone, NotesTexts, Renotes, TextsHeld, TextsStored};
 ghost use Rattle.desk_journal.specs.Telling.{IsPastRead};
 
 use crate::redo::{cycle_again, key_in, remade, withdrawal_again};
 use box_store::makes_store;
 use desk_journal::{Past, fresh_of, item_of, no_fresh};
-use house_text::can_begin;
 use mail_cycle::{CycleRefused, Rewound};
 use mail_desk::{Desk, Fresh};
 use seal_log::{Place, ReadFault};
@@ -39,48 +39,6 @@ use verb_bytes::{
     CycleAsk, JournalRecord, Unwritten, act_text_from, item_text_from, spell_snapshot,
 };
 use verb_core::{Act, BoxId, Conf, Deed, House, Item, Mailbox, Rows};
-
-// ---- the first record
-
-/// The house and the configuration at first, of a Format.
-fn opening_in(what: JournalRecord) -> Option<(House, Conf)>
-    ensures { result ≡ format_of what }
-{
-    match what {
-        JournalRecord::Format(house, conf) => Some((house, conf)),
-        other => {
-            drop(other);
-            None
-        }
-    }
-}
-
-/// A desk on which nothing was done yet, where a journal can begin so.
-fn begun_by(alloc: Global, house: House, conf: Conf) -> Result<Option<Desk>, NoMemory>
-    ensures { IfOk result (λ desk. option_map (λ d. d.kept) desk ≡ begun house conf) }
-{
-    if can_begin(&house, &conf) {
-        match Desk::new(alloc, house, conf) {
-            Ok(desk) => Ok(Some(desk)),
-            Err(NoMemory) => Err(NoMemory),
-        }
-    } else {
-        drop(house);
-        drop(conf);
-        Ok(None)
-    }
-}
-
-/// The desk behind a journal's first record, where it can stand.
-pub(crate) fn begin(alloc: Global, what: JournalRecord) -> Result<Option<Desk>, NoMemory>
-    requires { HasSpelling what }
-    ensures { IfOk result (λ desk. option_map (λ d. d.kept) desk ≡ first_state what) }
-{
-    match opening_in(what) {
-        Some((house, conf)) => begun_by(alloc, house, conf),
-        None => Ok(None),
-    }
-}
 
 // ---- the users of an item
 
@@ -145,10 +103,18 @@ fn has_users(house: &House, item: &Item) -> bool
     has_actor(house, item.by, &item.deed) && deed_knows(house, &item.deed)
 }
 
+/// Whether an item is such as can be recorded.
+pub(crate) fn is_formed(house: &House, item: &Item) -> bool
+    requires { IsFormed item.now }
+    ensures { result ≡ formed house.now item.now }
+{
+    has_users(house, item)
+}
+
 // ---- an item
 
 /// Whether an item can follow: it has the next number, there is one left, and its users are such as it may have.
-fn can_follow(desk: &Desk, item: &Item) -> bool
+pub(crate) fn can_follow(desk: &Desk, item: &Item) -> bool
     requires { IsFormed item.now }
     ensures { result ≡ follows desk.now.kept item.now }
 {
@@ -182,7 +148,7 @@ fn enter(
 }
 
 /// How many bytes the payload at a place has: four bytes say it.
-fn length_at(place: Place) -> u32
+pub(crate) fn length_at(place: Place) -> u32
     ensures { result ≡ place.length }
 {
     place.length
@@ -268,8 +234,8 @@ fn replace_with(
     requires fit { IsFit desk.old.kept made }
     requires undone { CanBeUndone desk.old.kept undoes made }
     ensures kept { IfOk result (λ stood. (stood ≡ true) × (desk.new.kept ≡ after_rewound desk.old.kept key undoes made)) }
-    ensures notes { OnOk result (Renotes desk.old.notes fresh (asked_then desk.old.kept undoes made) desk.new.notes) }
-    ensures sizes { OnOk result (SizesOf desk.new.notes (items_asked desk.new.kept)) }
+    ensures notes { OnOk result (Renotes desk.old.notes fresh desk.old.kept.texts (asked_then desk.old.kept undoes made) desk.new.notes) }
+    ensures sizes { OnOk result (SizesOf desk.new.notes desk.new.kept.texts (items_asked desk.new.kept)) }
     ensures marks { OnOk result (desk.new.marks ≡ marks_at_or_before made.place desk.old.marks) }
     ensures never { IsErrOf result ReadFault.Disk → ⊥ }
 {
@@ -296,8 +262,8 @@ fn put_in_place(
     requires fit { IsFit desk.old.kept made }
     requires undone { CanBeUndone desk.old.kept true made }
     ensures kept { IfOk result (λ stood. (stood ≡ true) × (desk.new.kept ≡ after_rewound desk.old.kept ask.key true made)) }
-    ensures notes { (at : ℕ) → OnOk result (NotesCycle desk.old.kept.next at ask place desk.old.notes (asked_then desk.old.kept true made) desk.new.notes) }
-    ensures sizes { OnOk result (SizesOf desk.new.notes (items_asked desk.new.kept)) }
+    ensures notes { (at : ℕ) → OnOk result (NotesCycle desk.old.kept.next at ask place desk.old.notes desk.old.kept.texts (asked_then desk.old.kept true made) desk.new.notes) }
+    ensures sizes { OnOk result (SizesOf desk.new.notes desk.new.kept.texts (items_asked desk.new.kept)) }
     ensures marks { OnOk result (desk.new.marks ≡ marks_at_or_before made.place desk.old.marks) }
     ensures never { IsErrOf result ReadFault.Disk → ⊥ }
 {
@@ -409,8 +375,8 @@ fn put_back(
 ) -> Result<bool, ReadFault>
     requires { IsFit desk.old.kept made }
     ensures kept { IfOk result (λ stood. (stood ≡ true) × (desk.new.kept ≡ after_rewound desk.old.kept key false made)) }
-    ensures notes { OnOk result (NotesNone place desk.old.notes (asked_then desk.old.kept false made) desk.new.notes) }
-    ensures sizes { OnOk result (SizesOf desk.new.notes (items_asked desk.new.kept)) }
+    ensures notes { OnOk result (NotesNone place desk.old.notes desk.old.kept.texts (asked_then desk.old.kept false made) desk.new.notes) }
+    ensures sizes { OnOk result (SizesOf desk.new.notes desk.new.kept.texts (items_asked desk.new.kept)) }
     ensures marks { OnOk result (desk.new.marks ≡ marks_at_or_before made.place desk.old.marks) }
     ensures never { IsErrOf result ReadFault.Disk → ⊥ }
 {
@@ -567,7 +533,7 @@ fn keep(
     requires spelled { HasSpelling (Snapshot items conf.now rows.now) }
     requires place { place.gate + 5 + place.length ≤ end }
     ensures entered { IfOk result (λ stood. Performs (after_record desk.old.kept (Snapshot items conf.now rows.now)) stood desk.new.kept) }
-    ensures still { IfOk result (λ stood. stood ≡ true → (desk.new.notes ≡ desk.old.notes) × (items_asked desk.new.kept ≡ items_asked desk.old.kept)) }
+    ensures still { IfOk result (λ stood. stood ≡ true → AsksAlike desk.old desk.new) }
     ensures marked { IfOk result (λ stood. stood ≡ true → KeepsMarks end place (record_bytes (Snapshot items conf.now rows.now)) desk.old desk.new) }
 {
     if !can_keep(desk, items, conf, rows) {
@@ -592,13 +558,61 @@ fn enter_snapshot(
     requires spelled { HasSpelling (Snapshot items conf rows) }
     requires place { place.gate + 5 + place.length ≤ end }
     ensures entered { IfOk result (λ stood. Performs (after_record desk.old.kept (Snapshot items conf rows)) stood desk.new.kept) }
-    ensures still { IfOk result (λ stood. stood ≡ true → (desk.new.notes ≡ desk.old.notes) × (items_asked desk.new.kept ≡ items_asked desk.old.kept)) }
+    ensures still { IfOk result (λ stood. stood ≡ true → AsksAlike desk.old desk.new) }
     ensures marked { IfOk result (λ stood. stood ≡ true → KeepsMarks end place (record_bytes (Snapshot items conf rows)) desk.old desk.new) }
 {
     let kept = keep(alloc, desk, end, items, &conf, rows.as_slice(), place);
     drop(conf);
     drop(rows);
     kept
+}
+
+/// Whether a snapshot can follow and is true; it is marked then.
+fn keep_true(
+    alloc: Global,
+    desk: &mut Desk,
+    end: u64,
+    items: u32,
+    conf: &Conf,
+    rows: &[(BoxId, Mailbox)],
+    place: Place,
+) -> Result<bool, NoMemory>
+    requires spelled { HasSpelling (Snapshot items conf.now rows.now) }
+    requires place { place.gate + 5 + place.length ≤ end }
+    ensures judged { IfOk result (λ truth. Judges desk.old.kept (Snapshot items conf.now rows.now) truth desk.new.kept) }
+    ensures still { IfOk result (λ truth. truth ≡ true → AsksAlike desk.old desk.new) }
+    ensures marked { IfOk result (λ truth. truth ≡ true → KeepsMarks end place (record_bytes (Snapshot items conf.now rows.now)) desk.old desk.new) }
+{
+    if !can_keep(desk, items, conf, rows) {
+        return Ok(false);
+    }
+    match is_true(alloc, desk, items, conf, rows) {
+        Ok(true) => mark_at(desk, true, place),
+        Ok(false) => Ok(false),
+        Err(NoMemory) => Err(NoMemory),
+    }
+}
+
+/// The same of a record.
+pub(crate) fn snapshot_is_true(
+    alloc: Global,
+    desk: &mut Desk,
+    end: u64,
+    items: u32,
+    conf: Conf,
+    rows: Rows,
+    place: Place,
+) -> Result<bool, NoMemory>
+    requires spelled { HasSpelling (Snapshot items conf rows) }
+    requires place { place.gate + 5 + place.length ≤ end }
+    ensures judged { IfOk result (λ truth. Judges desk.old.kept (Snapshot items conf rows) truth desk.new.kept) }
+    ensures still { IfOk result (λ truth. truth ≡ true → AsksAlike desk.old desk.new) }
+    ensures marked { IfOk result (λ truth. truth ≡ true → KeepsMarks end place (record_bytes (Snapshot items conf rows)) desk.old desk.new) }
+{
+    let truth = keep_true(alloc, desk, end, items, &conf, rows.as_slice(), place);
+    drop(conf);
+    drop(rows);
+    truth
 }
 
 // ---- an upgrade
@@ -610,6 +624,8 @@ fn enter_upgrade(desk: &mut Desk, at: u64) -> bool
     ensures base { desk.new.kept.base ≡ desk.old.kept.base }
     ensures timeline { desk.new.kept.timeline ≡ desk.old.kept.timeline }
     ensures asked { items_asked desk.new.kept ≡ items_asked desk.old.kept }
+    ensures texts { desk.new.kept.texts ≡ desk.old.kept.texts }
+    ensures first { desk.new.kept.first ≡ desk.old.kept.first }
     ensures notes { desk.new.notes ≡ desk.old.notes }
     ensures marks { desk.new.marks ≡ desk.old.marks }
 {
@@ -624,7 +640,7 @@ fn enter_upgrade(desk: &mut Desk, at: u64) -> bool
 // ---- the next record
 
 /// What is told of one record that finds no memory.
-fn without_reads(stood: Result<bool, NoMemory>) -> Result<bool, ReadFault>
+pub(crate) fn without_reads(stood: Result<bool, NoMemory>) -> Result<bool, ReadFault>
     ensures same { IfOk result (λ b. stood ≡ Ok b) }
     ensures never { IsErrOf result ReadFault.Disk → ⊥ }
 {
@@ -688,5 +704,26 @@ pub(crate) fn follow<D: Disk>(
             without_reads(enter_snapshot(alloc, desk, past.end(), items, conf, rows, place))
         }
         JournalRecord::Upgrade { at } => Ok(enter_upgrade(desk, at)),
+        JournalRecord::Base {
+            conf,
+            rows,
+            stamps,
+            reports,
+            ..
+        } => {
+            drop(conf);
+            drop(rows);
+            drop(stamps);
+            drop(reports);
+            Ok(false)
+        }
+        JournalRecord::Text { text, .. } => {
+            drop(text);
+            Ok(false)
+        }
+        JournalRecord::Kept(item) => {
+            drop(item);
+            Ok(false)
+        }
     }
 }

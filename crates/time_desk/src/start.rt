@@ -1,5 +1,5 @@
 //! A desk from the journal on a disk.
-ghost use Rattle.std.specs.Prelude.{◌≡◌, ◌<◌, ◌≤◌, ◌+◌, ◌++◌, ℕ, List, [], true, false, Some, None, Ok, Err, OnOk, IfOk, IfErr, length, drop, slice_get};
+ghost use Rattle.std.specs.Prelude.{◌≡◌, ◌<◌, ◌≤◌, ◌+◌, ◌++◌, ℕ, List, true, false, Some, None, Ok, Err, OnOk, IfOk, IfErr, length};
 ghost use Rattle.std.specs.List.{All};
 ghost use Rattle.verb_bytes.specs.declared.journal.JournalRecord.{JournalRecord as TheRecord};
 ghost use Rattle.verb_bytes.specs.Spelling.{HasSpelling, Spells, record_bytes};
@@ -12,13 +12,14 @@ ghost use Rattle.store_kept.specs.Coming.{HasUndoneTexts};
 ghost use Rattle.store_kept.specs.Kept.{IsRun, Kept};
 ghost use Rattle.desk_journal.specs.Permanence.{RevsBelow};
 ghost use Rattle.time_desk.specs.Opening.{IsStarted, Refuses, Starts};
-ghost use Rattle.desk_journal.specs.Records.{after_record, first_state};
-ghost use Rattle.time_desk.specs.Standing.{BreaksFor, Fails, FailsPayload, FailsReading, FrontBreaksFor, LeadsTo, Opens, Performed, ReadCounts, SpellsAll, SpellsNothing, StopsFor};
+ghost use Rattle.desk_journal.specs.Records.{after_record};
+ghost use Rattle.time_desk.specs.Standing.{BreaksFor, Fails, FailsPayload, FailsReading, LeadsTo, Performed, ReadCounts, SpellsAll, SpellsNothing, StopsFor};
 ghost use Rattle.desk_journal.specs.Stored.{AreNoted, HoldsTexts, SettledTexts, TextsHeld};
 ghost use Rattle.desk_journal.specs.Telling.{IsPastRead};
 
+use crate::front::begin_at;
 use crate::permanence::records_let_uids_last;
-use crate::standing::{begin, follow};
+use crate::standing::follow;
 use crate::{Desk, StartFault};
 use desk_journal::{Journal, Past};
 use seal_log::{End, LoadFault, Log, Place, ReadFault, Survey, survey};
@@ -57,7 +58,7 @@ fn decoded_at(alloc: Global, payload: &Text, place: Place) -> Result<JournalReco
 }
 
 /// The record at a place.
-fn record_at<D: Disk>(
+pub(crate) fn record_at<D: Disk>(
     alloc: Global,
     past: &mut Past<D>,
     place: Place,
@@ -80,83 +81,9 @@ fn record_at<D: Disk>(
     }
 }
 
-/// The desk behind a first record; where it can't stand its gate is told.
-fn begun(alloc: Global, what: JournalRecord, gate: u64) -> Result<mail_desk::Desk, StartFault>
-    requires { HasSpelling what }
-    ensures first { IfOk result (λ desk. first_state what ≡ Some desk.kept) }
-    ensures none { IfOk result (λ desk. (desk.kept.timeline ≡ []) × (desk.kept.undone ≡ None) × (desk.marks ≡ [])) }
-    ensures runs { IfOk result (λ desk. IsRun desk.kept) }
-    ensures bad { IfErr result (Fails (first_state what ≡ None) gate) }
-{
-    match begin(alloc, what) {
-        Ok(Some(desk)) => {
-            desk.stands();
-            Ok(desk)
-        }
-        Ok(None) => Err(StartFault::Damaged { place: gate }),
-        Err(NoMemory) => Err(StartFault::NoMemory),
-    }
-}
-
-/// Reads a first record, and begins a desk with it.
-fn begin_with<D: Disk>(
-    alloc: Global,
-    past: &mut Past<D>,
-    place: Place,
-) -> Result<mail_desk::Desk, StartFault>
-    requires place { place.gate + 5 + place.length ≤ past.old.end }
-    ensures performed { (payloads : List (List ℕ)) (payload : List ℕ) → Holds (D.told past.old.disk) payloads
-        → LiesAt payloads place.gate place.length payload → IfOk result (λ desk. Performed first_state payload desk.kept) }
-    ensures none { IfOk result (λ desk. (desk.kept.timeline ≡ []) × (desk.kept.undone ≡ None) × (desk.marks ≡ [])) }
-    ensures runs { IfOk result (λ desk. IsRun desk.kept) }
-    ensures bad { (payloads : List (List ℕ)) (payload : List ℕ) → Holds (D.told past.old.disk) payloads
-        → LiesAt payloads place.gate place.length payload → IfErr result (FailsPayload first_state payload place.gate) }
-    ensures still { IsPastRead D.told past.old past.new }
-    ensures ok { OnOk result ((D.told past.new.disk).failed_reads ≡ (D.told past.old.disk).failed_reads) }
-    ensures fault { IfErr result (ReadCounts (D.told past.old.disk) (D.told past.new.disk)) }
-{
-    one_spelling();
-    match record_at(alloc, past, place) {
-        Ok(what) => begun(alloc, what, place.gate),
-        Err(fault) => Err(fault),
-    }
-}
-
-fn first(places: &[Place]) -> Place
-    requires { 0 < length places.now }
-    ensures { slice_get places.now 0 ≡ Some result }
-{
-    places[0]
-}
-
-/// Reads the records that a journal opens with, one, and begins a desk with them; and tells how many they are.
-fn begin_at<D: Disk>(
-    alloc: Global,
-    past: &mut Past<D>,
-    places: &[Place],
-) -> Result<(mail_desk::Desk, usize), StartFault>
-    requires some { 0 < length places.now }
-    requires places { All (λ place. place.gate + 5 + place.length ≤ past.old.end) places.now }
-    ensures opened { (payloads : List (List ℕ)) → Holds (D.told past.old.disk) payloads → places.now ≡ places_from 0 payloads
-        → IfOk result (λ front. Opens payloads front.0.kept (drop front.1 places.now)) }
-    ensures few { IfOk result (λ front. front.1 ≤ length places.now) }
-    ensures none { IfOk result (λ front. (front.0.kept.timeline ≡ []) × (front.0.kept.undone ≡ None) × (front.0.marks ≡ [])) }
-    ensures runs { IfOk result (λ front. IsRun front.0.kept) }
-    ensures bad { (payloads : List (List ℕ)) → Holds (D.told past.old.disk) payloads → places.now ≡ places_from 0 payloads
-        → IfErr result (FrontBreaksFor payloads) }
-    ensures still { IsPastRead D.told past.old past.new }
-    ensures ok { OnOk result ((D.told past.new.disk).failed_reads ≡ (D.told past.old.disk).failed_reads) }
-    ensures fault { IfErr result (ReadCounts (D.told past.old.disk) (D.told past.new.disk)) }
-{
-    match begin_with(alloc, past, first(places)) {
-        Ok(desk) => Ok((desk, 1)),
-        Err(fault) => Err(fault),
-    }
-}
-
 /// Revs stay below the next number when records are performed, texts that can come back still can, and the store stays what the
 /// items leave.
-fn revs_stay(desk: &mail_desk::Desk)
+pub(crate) fn revs_stay(desk: &mail_desk::Desk)
     ensures revs { (what : TheRecord) (next : Kept) → IsRun desk.now.kept → RevsBelow desk.now.kept → HasUndoneTexts desk.now.kept → after_record desk.now.kept what ≡ Some next → RevsBelow next }
     ensures back { (what : TheRecord) (next : Kept) → IsRun desk.now.kept → RevsBelow desk.now.kept → HasUndoneTexts desk.now.kept → after_record desk.now.kept what ≡ Some next → HasUndoneTexts next }
     ensures runs { (what : TheRecord) (next : Kept) → IsRun desk.now.kept → after_record desk.now.kept what ≡ Some next → IsRun next }
@@ -297,11 +224,12 @@ fn followed_by<D: Disk>(
     }
 }
 
-/// The desk that the records at all places of a journal leave.
+/// The desk that the records at all places of a journal leave. Behind the last place stands a frame that is cut, or none.
 fn read_all<D: Disk>(
     alloc: Global,
     past: &mut Past<D>,
     places: &[Place],
+    cut: bool,
 ) -> Result<mail_desk::Desk, StartFault>
     requires some { 0 < length places.now }
     requires places { All (λ place. place.gate + 5 + place.length ≤ past.old.end) places.now }
@@ -311,18 +239,28 @@ fn read_all<D: Disk>(
         → IfOk result (λ desk. TextsHeld (D.told past.new.disk) payloads desk.kept desk.notes desk.marks) }
     ensures noted { IfOk result (AreNoted past.old.end) }
     ensures bad { (payloads : List (List ℕ)) → Holds (D.told past.old.disk) payloads → places.now ≡ places_from 0 payloads
-        → IfErr result (BreaksFor payloads) }
+        → IfErr result (BreaksFor cut past.old.end payloads) }
     ensures still { IsPastRead D.told past.old past.new }
     ensures ok { OnOk result ((D.told past.new.disk).failed_reads ≡ (D.told past.old.disk).failed_reads) }
     ensures fault { IfErr result (ReadCounts (D.told past.old.disk) (D.told past.new.disk)) }
 {
-    match begin_at(alloc, past, places) {
+    match begin_at(alloc, past, places, cut) {
         Ok((desk, count)) => followed_by(alloc, past, after(places, count), desk),
         Err(fault) => Err(fault),
     }
 }
 
 // ---- the desk
+
+/// Whether a frame that is cut stands behind the payloads of a journal.
+fn ends_cut(end: &End) -> bool
+    ensures { result ≡ is_cut end.now }
+{
+    match end {
+        End::Whole(_) => false,
+        End::Cut { .. } => true,
+    }
+}
 
 /// The log behind the payloads of a journal; where a cut frame stands behind them its gate is told.
 fn log_of(end: End) -> Result<Log, StartFault>
@@ -377,7 +315,7 @@ fn opened_from<D: Disk>(
     if places.is_empty() {
         return Err(StartFault::Damaged { place: end.gate() });
     }
-    match read_all(alloc, past, places.as_slice()) {
+    match read_all(alloc, past, places.as_slice(), ends_cut(&end)) {
         Ok(desk) => ended(end, desk),
         Err(fault) => {
             drop(end);

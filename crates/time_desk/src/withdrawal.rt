@@ -68,7 +68,7 @@ fn ready_beside(
     ensures same_marks { desk.new.marks ≡ desk.old.marks }
     ensures made { IfOk result (λ found. remade_as desk.old.kept found.remade ≡ after_rewound desk.old.kept key false made) }
     ensures report { IfOk result (λ found. found.report ≡ made.report) }
-    ensures notes { IfOk result (λ found. NotesNone place desk.old.notes (asked_then desk.old.kept false made) found.remade.shelf.notes) }
+    ensures notes { IfOk result (λ found. NotesNone place desk.old.notes desk.old.kept.texts (asked_then desk.old.kept false made) found.remade.shelf.notes) }
     ensures place { IfOk result (λ found. found.remade.left.place ≡ made.place) }
     ensures ready { IfOk result (λ found. CanReplace found.remade desk.new) }
     ensures bytes { IfOk result (λ found. found.bytes ≡ bytes) }
@@ -93,7 +93,7 @@ fn ready_withdrawal<D: Disk>(
     ensures same_marks { desk.new.marks ≡ desk.old.marks }
     ensures made { IfOk result (λ found. remade_as desk.old.kept found.remade ≡ after_rewound desk.old.kept key.now false made) }
     ensures report { IfOk result (λ found. found.report ≡ made.report) }
-    ensures notes { IfOk result (λ found. NotesNone (record { gate = journal.now.gate; length = length found.bytes }) desk.old.notes (asked_then desk.old.kept false made) found.remade.shelf.notes) }
+    ensures notes { IfOk result (λ found. NotesNone (record { gate = journal.now.gate; length = length found.bytes }) desk.old.notes desk.old.kept.texts (asked_then desk.old.kept false made) found.remade.shelf.notes) }
     ensures place { IfOk result (λ found. found.remade.left.place ≡ made.place) }
     ensures ready { IfOk result (λ found. CanReplace found.remade desk.new) }
     ensures bytes { IfOk result (λ found. found.bytes ≡ record_bytes (Withdraw desk.old.kept.next at key.now of)) }

@@ -1,11 +1,13 @@
-use Rattle.std.proofs.Common.{◌≡◌, ◌∙◌, ◌≤◌, List, ap, inl, nat_le, subst, sym}
+use Rattle.std.proofs.Common.{◌≡◌, ◌∙◌, ◌≤◌, List, Option, None, Some, Result, Ok, Err, ap, inl, nat_le, subst, sym}
 use Rattle.std.specs.List.{AllByRecursion}
 use Rattle.mail_cycle.specs.declared.beginning.Beginning.{Beginning}
+use Rattle.seal_log.specs.declared.fault.ReadFault.{ReadFault}
 use Rattle.shelf.specs.Marks.{marks_at_or_before}
+use Rattle.store_kept.specs.Kept.{not_behind}
 use Rattle.time_desk.specs.Serving.{CanServe, FindsNewest, IsLastToServe, NoneServes}
 use Rattle.desk_journal.specs.Stored.{MarkLies, MarkedBefore, MarksLie}
 use Rattle.desk_journal.proofs.Marking.{marked_front, marks_passed}
-use Rattle.time_desk.proofs.Servings.{Mark, all_before, begins_first, found_newest, found_none, serves_first, some_has}
+use Rattle.time_desk.proofs.Servings.{Mark, all_before, begins_first, both_ok, found_newest, found_none, marked_due, serves_first, some_has, unmarked_none}
 use Rattle.time_desk.proofs.beginning.beginning.Goals as goal
 
 pub newest-requires : goal.newest-requires
@@ -57,3 +59,18 @@ returns-in-Ok-None-clause-passes g c = λ honest.
     begins_first disk desk c.args.place c.at_first.result
     (subst (NoneServes disk desk.kept) ms_are (subst (FindsNewest disk desk.kept c.marks_at_or_before-marks.result.now) c.in-Ok-None.field-0-is (c.in-Ok-None.ensures.passes honest)))
     c.at_first.ensures.count c.at_first.ensures.store
+
+-- where none is marked at or before the place none is looked at
+pub returns-in-Ok-Some-clause-first : goal.returns-in-Ok-Some-clause-first
+returns-in-Ok-Some-clause-first g c = λ none.
+    let found : ◌≡◌ {A = Result (Option Beginning) ReadFault} (Ok (Some c.in-Ok-Some.first)) (Ok None) =
+    ap Ok (sym c.in-Ok-Some.field-0-is) ∙ sym c.in-Ok-Some.is ∙ c.newest.ensures.none (unmarked_none c.args.desk.now.kept c.args.place c.marks_at_or_before-marks.result.now (c.marks_at_or_before-marks.ensures.places ∙ ap (λ n. not_behind n c.args.desk.now.kept.marks.places) c.position_of.ensures) none) in
+    absurd (cc found)
+
+pub returns-in-Ok-None-clause-first : goal.returns-in-Ok-None-clause-first
+returns-in-Ok-None-clause-first g c = λ none. both_ok c.at_first.result (λ (first : Beginning). first.count ≡ 0) (λ (first : Beginning). first.store.store ≡ c.args.desk.now.kept.base) c.at_first.ensures.count c.at_first.ensures.store
+
+pub returns-in-Err-clause-due : goal.returns-in-Err-clause-due
+returns-in-Err-clause-due g c = λ failed.
+    marked_due c.args.desk.now.kept c.args.place c.marks_at_or_before-marks.result.now (c.marks_at_or_before-marks.ensures.places ∙ ap (λ n. not_behind n c.args.desk.now.kept.marks.places) c.position_of.ensures)
+    (λ none. let found : ◌≡◌ {A = Result (Option Beginning) ReadFault} (Err c.in-Err.fault) (Ok None) = sym c.in-Err.is ∙ c.newest.ensures.none none in cc found)

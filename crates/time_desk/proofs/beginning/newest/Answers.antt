@@ -1,4 +1,4 @@
-use Rattle.std.proofs.Common.{◌∙◌, ◌-◌, ◌≤◌, None, Option, Some, arith, refl, subst}
+use Rattle.std.proofs.Common.{◌≡◌, ◌∙◌, ◌-◌, ◌≤◌, List, None, Option, Some, ap, arith, length, refl, subst}
 use Rattle.std.specs.Prelude.{option_map, slice_index_or}
 use Rattle.desk_journal.specs.Going.{read_on}
 use Rattle.box_store.specs.declared.store.Store.{Store}
@@ -73,3 +73,10 @@ returns-clause-passes g c = λ honest.
 pub returns-in-Ok-Some-clause-few : goal.returns-in-Ok-Some-clause-few
 returns-in-Ok-Some-clause-few g c = λ place all.
     mark_at (λ (m : Mark). m.0 ≤ place) c.args.marks.now (c.loop-i.i - 1) (0, record { gate = 0; length = 0 }) (omega (arith, c.loop-i.invariant.within)) all
+
+-- where none is marked none is looked at
+pub returns-in-Ok-Some-clause-none : goal.returns-in-Ok-Some-clause-none
+returns-in-Ok-Some-clause-none g c = λ none. absurd (let empty : length c.args.marks.now ≡ 0 = ap (λ (xs : List Mark). length xs) none in omega (arith, empty, c.loop-i.invariant.within))
+
+pub returns-in-Err-clause-none : goal.returns-in-Err-clause-none
+returns-in-Err-clause-none g c = λ none. absurd (let empty : length c.args.marks.now ≡ 0 = ap (λ (xs : List Mark). length xs) none in omega (arith, empty, c.loop-i.invariant.within))

@@ -42,12 +42,12 @@ returns-in-Ok-seal_found-clause-noted g c = λ is. record {
       let new = c.seal_found.new in
       let told = c.stands.ensures in
       let kept_is = done.kept ∙ ap (λ (k : Kept). remade_as k found.remade) c.in-Ok.ensures.kept ∙ c.in-Ok.ensures.made in
-      cycle_notes c.args.journal.now.gate new.journal.gate old new.desk c.args.at c.args.ask ⊥ c.args.made found.bytes done.sealed.next c.in-Ok.ensures.bytes is c.requires.fit (ap items_asked kept_is)
-      told.sizes told.timeline.apart told.below told.undone
+      cycle_notes c.args.journal.now.gate new.journal.gate old new.desk c.args.at c.args.ask ⊥ c.args.made found.bytes done.sealed.next c.in-Ok.ensures.bytes is c.requires.fit c.args.ask.key kept_is
+      told.sizes told.base told.timeline.apart told.below told.undone
       (subst (λ notes. RenotesAs old c.args.ask c.args.at (record { gate = c.args.journal.now.gate; length = length found.bytes }) c.args.made notes) (sym done.notes) c.in-Ok.ensures.notes)
-      (subst (λ notes. SizesOf notes (asked_then old.kept true c.args.made)) (sym done.notes)
-      (subst (SizesOf found.remade.shelf.notes) (ap items_asked c.in-Ok.ensures.made)
-      (subst (λ (k : Kept). SizesOf found.remade.shelf.notes (items_asked (remade_as k found.remade))) c.in-Ok.ensures.kept c.in-Ok.ensures.ready.sizes)))
+      (subst (λ notes. SizesOf notes old.kept.texts (asked_then old.kept true c.args.made)) (sym done.notes)
+      (subst (SizesOf found.remade.shelf.notes old.kept.texts) (ap items_asked c.in-Ok.ensures.made)
+      (subst (λ (k : Kept). SizesOf found.remade.shelf.notes k.texts (items_asked (remade_as k found.remade))) c.in-Ok.ensures.kept c.in-Ok.ensures.ready.sizes)))
       c.requires.noted.noted);
   marked = (let old = c.args.desk.now in
       let new = c.seal_found.new in

@@ -1,4 +1,4 @@
-use Rattle.time_desk.proofs.Soundness.{state_holds}
+use Rattle.time_desk.proofs.Soundness.{state_holds, state_opening}
 use Rattle.time_desk.proofs.permanence.states_are_sound.Goals as goal
 
 pub returns-clause-sound : goal.returns-clause-sound
@@ -14,4 +14,4 @@ pub returns-clause-runs : goal.returns-clause-runs
 returns-clause-runs c = λ records kept is. (state_holds records kept is).0.runs
 
 pub returns-clause-opening : goal.returns-clause-opening
-returns-clause-opening c = λ records kept is. (state_holds records kept is).3
+returns-clause-opening c = state_opening

@@ -1,6 +1,6 @@
 use Rattle.std.proofs.Common.{◌≡◌, ◌∙◌, Err, Some, true, ap, refl, subst, sym}
 use Rattle.store_kept.specs.Coming.{Comes, ComesIf}
-use Rattle.store_kept.specs.Kept.{Kept}
+use Rattle.store_kept.specs.Kept.{Kept, origin_of}
 use Rattle.cycle_rules.specs.Repairing.{leaves_numbers_for}
 use Rattle.cycle_rules.specs.Withdrawals.{withdraw_due_at}
 use Rattle.verb_core.specs.Items.{IsTimeline}
@@ -18,13 +18,13 @@ withdrawal-requires-clause-timeline g c = subst (λ (k : Kept). IsTimeline k.hou
 pub withdrawal-requires-clause-back : goal.withdrawal-requires-clause-back
 withdrawal-requires-clause-back g c =
     let kept = c.args.desk.now.kept in
-    let comes : Comes kept.house kept.base kept.timeline kept.next c.args.last.now = subst (ComesIf kept.house kept.base kept.timeline kept.next) c.requires.last c.stands.ensures.undone in
+    let comes : Comes (origin_of kept) kept.timeline kept.next c.args.last.now = subst (ComesIf (origin_of kept) kept.timeline kept.next) c.requires.last c.stands.ensures.undone in
     subst (λ (k : Kept). CanComeBack k.house k.timeline c.args.last.now) (sym c.begun.ensures) comes.back
 
 pub again-requires-clause-can : goal.again-requires-clause-can
 again-requires-clause-can g c =
     let kept = c.args.desk.now.kept in
-    let comes : Comes kept.house kept.base kept.timeline kept.next c.args.last.now = subst (ComesIf kept.house kept.base kept.timeline kept.next) c.requires.last c.stands.ensures.undone in
+    let comes : Comes (origin_of kept) kept.timeline kept.next c.args.last.now = subst (ComesIf (origin_of kept) kept.timeline kept.next) c.requires.last c.stands.ensures.undone in
     let goes = c.withdrawals_leave_states.ensures.goes kept c.args.last.now c.stands.ensures.timeline comes c.stands.ensures.below in
     withdrawal_can g.D.Disk.told c.args.desk.now c.args.past.now.end c.args.at c.args.last.now c.in-Ok.due (c.in-Ok.ensures.due ∙ ap (λ (k : Kept). withdrawal_task k c.args.at c.args.last.now) c.begun.ensures)
     goes

@@ -10,7 +10,7 @@ short g = omega (arith, g.requires.long, g.length_at-length.ensures, g.length_at
 pub returns-clause-noted : goal.returns-clause-noted
 returns-clause-noted g =
     entered_record g.args.end g.args.place (record_bytes (Verb g.args.item)) g.item_text_from-from.result g.args.desk.now g.enter.new.desk g.args.item g.enter.result
-    g.requires.place g.requires.long (λ text own. g.item_text_from-from.ensures.lies text g.requires.spelled (short g) own) g.stands.ensures.below g.stands.ensures.undone g.enter.ensures.entered g.enter.ensures.noted
+    g.requires.place g.requires.long (λ text own. g.item_text_from-from.ensures.lies text g.requires.spelled (short g) own) g.stands.ensures.base g.stands.ensures.below g.stands.ensures.undone g.enter.ensures.entered g.enter.ensures.noted
 
 pub returns-clause-marked : goal.returns-clause-marked
 returns-clause-marked g =

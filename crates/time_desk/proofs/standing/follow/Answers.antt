@@ -6,16 +6,13 @@ use Rattle.verb_bytes.specs.declared.journal.JournalRecord.TheVariants.{Operator
 use Rattle.verb_bytes.specs.Spelling.{record_bytes}
 use Rattle.seal_log.specs.Journal.{LiesAt}
 use Rattle.seal_log.specs.declared.fault.ReadFault.{ReadFault}
-use Rattle.verb_core.specs.declared.item.Item.{Item}
-use Rattle.verb_core.specs.declared.mailbox.Body.{Body}
-use Rattle.shelf.specs.declared.note.Note.{Note}
 use Rattle.desk_journal.specs.Records.{after_record}
 use Rattle.seal_log.specs.declared.place.Place.{Place}
-use Rattle.store_kept.specs.Texts.{items_asked}
 use Rattle.mail_desk.specs.Held.{Held}
-use Rattle.desk_journal.specs.Stored.{AreNoted, KeepsMarks, MarkedBefore, MarksLie, NotedBefore, NotesTexts, TextsLie, TextsNoted}
+use Rattle.desk_journal.specs.Stored.{AreNoted, IsBefore, IsStored, KeepsMarks, MarkedBefore, MarksLie, NotesTexts, TextsNoted}
 use Rattle.desk_journal.proofs.Marking.{marks_kept}
-use Rattle.time_desk.specs.Standing.{Performs}
+use Rattle.time_desk.specs.Standing.{AsksAlike, Performs}
+use Rattle.time_desk.proofs.Holding.{noted_alike}
 use Rattle.time_desk.proofs.Standings.{if_ok}
 use Rattle.time_desk.proofs.standing.follow.Goals as goal
 
@@ -36,9 +33,9 @@ both_kept end gate old new bytes place (Err why) same noted notes marks = tt
 
 -- and behind a snapshot
 still_noted : (gate : ℕ) (old new : Held) (bytes : List ℕ) (place : Place) (r : Result Bool ReadFault) → AreNoted gate old
-    → IfOk r (λ stood. stood ≡ true → (new.notes ≡ old.notes) × (items_asked new.kept ≡ items_asked old.kept)) → IfOk r (λ stood. stood ≡ true → KeepsMarks gate place bytes old new) → IfOk r (λ stood. stood ≡ true → AreNoted gate new)
+    → IfOk r (λ stood. stood ≡ true → AsksAlike old new) → IfOk r (λ stood. stood ≡ true → KeepsMarks gate place bytes old new) → IfOk r (λ stood. stood ≡ true → AreNoted gate new)
 still_noted gate old new bytes place (Ok stood) noted still marks = λ e. record {
-  noted = subst (λ (t : List Item). NotedBefore gate new.notes t) (sym (still e).1) (subst (λ (notes : List (Body × Note)). NotedBefore gate notes (items_asked old.kept)) (sym (still e).0) noted.noted);
+  noted = noted_alike (IsBefore gate) old new (still e) noted.noted;
   marked = (marks e).before noted.marked;
 }
 still_noted gate old new bytes place (Err why) noted still marks = tt
@@ -94,8 +91,7 @@ returns-in-Withdraw-clause-marks g c payloads texts lies = c.withdraw.ensures.ma
 pub returns-in-Snapshot-clause-texts : goal.returns-in-Snapshot-clause-texts
 returns-in-Snapshot-clause-texts g c payloads texts lies =
     if_ok c.without_reads-in-Snapshot.result _ _
-    (λ stood still e. subst (λ (t : List Item). TextsLie payloads c.enter_snapshot.new.desk.notes t) (sym (still e).1)
-    (subst (λ (notes : List (Body × Note)). TextsLie payloads notes (items_asked c.args.desk.now.kept)) (sym (still e).0) texts.lie))
+    (λ stood still e. noted_alike (IsStored payloads) c.args.desk.now c.enter_snapshot.new.desk (still e) texts.lie)
     (passed _ c.enter_snapshot.result c.without_reads-in-Snapshot.result c.without_reads-in-Snapshot.ensures.same c.enter_snapshot.ensures.still)
 
 pub returns-in-Snapshot-clause-marks : goal.returns-in-Snapshot-clause-marks
@@ -129,8 +125,8 @@ returns-in-Upgrade-clause-performed g c payloads texts =
 
 pub returns-in-Upgrade-clause-texts : goal.returns-in-Upgrade-clause-texts
 returns-in-Upgrade-clause-texts g c payloads texts lies = λ e.
-    subst (λ (t : List Item). TextsLie payloads c.enter_upgrade.new.desk.notes t) (sym c.enter_upgrade.ensures.asked)
-    (subst (λ (notes : List (Body × Note)). TextsLie payloads notes (items_asked c.args.desk.now.kept)) (sym c.enter_upgrade.ensures.notes) texts.lie)
+    let done = c.enter_upgrade.ensures in
+    noted_alike (IsStored payloads) c.args.desk.now c.enter_upgrade.new.desk (record { notes = done.notes; items = done.asked; texts = done.texts; first = done.first }) texts.lie
 
 pub returns-in-Upgrade-clause-marks : goal.returns-in-Upgrade-clause-marks
 returns-in-Upgrade-clause-marks g c payloads texts lies = λ e.
@@ -139,7 +135,7 @@ returns-in-Upgrade-clause-marks g c payloads texts lies = λ e.
 
 pub returns-in-Upgrade-clause-noted : goal.returns-in-Upgrade-clause-noted
 returns-in-Upgrade-clause-noted g c = λ e. record {
-  noted = subst (λ (t : List Item). NotedBefore c.args.past.now.end c.enter_upgrade.new.desk.notes t) (sym c.enter_upgrade.ensures.asked)
-      (subst (λ (notes : List (Body × Note)). NotedBefore c.args.past.now.end notes (items_asked c.args.desk.now.kept)) (sym c.enter_upgrade.ensures.notes) c.requires.noted.noted);
+  noted = (let done = c.enter_upgrade.ensures in
+      noted_alike (IsBefore c.args.past.now.end) c.args.desk.now c.enter_upgrade.new.desk (record { notes = done.notes; items = done.asked; texts = done.texts; first = done.first }) c.requires.noted.noted);
   marked = subst (MarkedBefore c.args.past.now.end) (sym c.enter_upgrade.ensures.marks) c.requires.noted.marked;
 }

@@ -25,7 +25,7 @@ returns-in-Ok-clause-texts g c payloads texts lies =
     let redone = c.in-Ok.ensures.redoes in
     when_stood _ _ _ c.put_in_place.result
     (λ kept notes sizes. put_lies desk c.put_in_place.new.desk c.args.at c.args.ask (HoldsHeld (g.D.Disk.told c.args.past.now.disk) desk) c.in-Ok.made c.args.place (record_bytes (Cycle desk.kept.next c.args.at c.args.ask)) notes.0 notes.1
-    redone.cycled redone.fit.timeline.apart (ap items_asked kept) c.stands.ensures.sizes c.stands.ensures.timeline.apart c.stands.ensures.below c.stands.ensures.undone notes.2
+    redone.cycled redone.fit.timeline.apart c.args.ask.key kept c.stands.ensures.sizes c.stands.ensures.base c.stands.ensures.timeline.apart c.stands.ensures.below c.stands.ensures.undone notes.2
     payloads lies (payloads, texts) texts.revs texts.back texts.lie)
     c.put_in_place.ensures.kept (c.put_in_place.ensures.notes c.args.at) c.put_in_place.ensures.sizes
 
@@ -45,8 +45,8 @@ returns-in-Ok-clause-noted g c =
     both_told c.args.past.now.end new c.put_in_place.result
     (when_stood _ _ _ c.put_in_place.result
     (λ kept notes sizes. put_noted desk new c.args.at c.args.ask (HoldsHeld (g.D.Disk.told c.args.past.now.disk) desk) c.in-Ok.made c.args.place (record_bytes (Cycle desk.kept.next c.args.at c.args.ask)) notes.0 notes.1
-    redone.cycled redone.fit.timeline.apart (ap items_asked kept) c.stands.ensures.sizes c.stands.ensures.timeline.apart c.stands.ensures.below c.stands.ensures.undone notes.2
-    c.args.past.now.end c.requires.place c.requires.long (subst (λ (t : List Item). SizesOf new.notes t) (ap items_asked kept) sizes) c.requires.noted.noted)
+    redone.cycled redone.fit.timeline.apart c.args.ask.key kept c.stands.ensures.sizes c.stands.ensures.base c.stands.ensures.timeline.apart c.stands.ensures.below c.stands.ensures.undone notes.2
+    c.args.past.now.end c.requires.place c.requires.long (subst (λ (k : Kept). SizesOf new.notes k.texts (items_asked k)) kept sizes) c.requires.noted.noted)
     c.put_in_place.ensures.kept (c.put_in_place.ensures.notes c.args.at) c.put_in_place.ensures.sizes)
     (when_stood _ _ _ c.put_in_place.result
     (λ kept marks sizes. subst (MarkedBefore c.args.past.now.end) (sym marks) (marked_front c.args.past.now.end c.in-Ok.made.place desk.marks c.requires.noted.marked))

@@ -24,7 +24,7 @@ returns-in-Ok-clause-texts g c payloads texts =
     let is = redone.withdrawn in
     when_stood _ _ _ c.put_back.result
     (λ kept notes sizes. withdrawal_lies desk c.put_back.new.desk c.args.at is.last (undone_is desk.kept c.args.of is.last is.is_last) (HoldsHeld (g.D.Disk.told c.args.past.now.disk) desk) c.in-Ok.made is.is_made
-    redone.fit.timeline.apart notes.0 notes.3 (ap items_asked kept) payloads (payloads, texts) texts.lie)
+    redone.fit.timeline.apart c.stands.ensures.base notes.0 notes.3 c.args.key kept payloads (payloads, texts) texts.lie)
     c.put_back.ensures.kept c.put_back.ensures.notes c.put_back.ensures.sizes
 
 pub returns-in-Ok-clause-marks : goal.returns-in-Ok-clause-marks
@@ -45,7 +45,7 @@ returns-in-Ok-clause-noted g c =
     both_told c.args.past.now.end new c.put_back.result
     (when_stood _ _ _ c.put_back.result
     (λ kept notes sizes. withdrawal_noted desk new c.args.at is.last (undone_is desk.kept c.args.of is.last is.is_last) (HoldsHeld (g.D.Disk.told c.args.past.now.disk) desk) c.in-Ok.made is.is_made
-    redone.fit.timeline.apart notes.0 notes.3 (ap items_asked kept) c.args.past.now.end (subst (λ (t : List Item). SizesOf new.notes t) (ap items_asked kept) sizes) c.requires.noted.noted)
+    redone.fit.timeline.apart c.stands.ensures.base notes.0 notes.3 c.args.key kept c.args.past.now.end (subst (λ (k : Kept). SizesOf new.notes k.texts (items_asked k)) kept sizes) c.requires.noted.noted)
     c.put_back.ensures.kept c.put_back.ensures.notes c.put_back.ensures.sizes)
     (when_stood _ _ _ c.put_back.result
     (λ kept marks sizes. subst (MarkedBefore c.args.past.now.end) (sym marks) (marked_front c.args.past.now.end c.in-Ok.made.place desk.marks c.requires.noted.marked))

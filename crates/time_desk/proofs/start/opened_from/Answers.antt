@@ -1,8 +1,8 @@
-use Rattle.std.proofs.Common.{◌≡◌, ◌∙◌, ℕ, true, sym, subst}
+use Rattle.std.proofs.Common.{◌≡◌, ◌∙◌, ℕ, Bool, true, sym, subst}
 use Rattle.seal_log.specs.Log.{end_gate, is_cut, last_gate}
 use Rattle.mail_desk.specs.Held.{Held}
 use Rattle.time_desk.specs.Opening.{IsDamaged, IsStarted, Refuses}
-use Rattle.time_desk.specs.Standing.{Fails}
+use Rattle.time_desk.specs.Standing.{BreaksFor, Fails}
 use Rattle.desk_journal.specs.Stored.{AreNoted, SettledTexts}
 use Rattle.time_desk.proofs.Standings.{if_err, if_ok}
 use Rattle.time_desk.proofs.Surveys.{breaks, cut_first, cut_told, whole, whole_texts}
@@ -53,4 +53,5 @@ returns-in-Ok-clause-bad g c image seen =
 pub returns-clause-bad : goal.returns-clause-bad
 returns-clause-bad g c image seen =
     breaks image (g.D.Disk.told c.args.past.now.disk) (end_gate c.args.seen.end) c.args.seen.places (is_cut c.args.seen.end) seen c.in-Err.fault
-    (c.in-Err.ensures.bad seen.payloads seen.held (c.as_slice.ensures ∙ seen.places_are))
+    (subst (λ (n : ℕ). BreaksFor (is_cut c.args.seen.end) n seen.payloads c.in-Err.fault) (sym c.requires.end)
+    (subst (λ (b : Bool). BreaksFor b c.args.past.now.end seen.payloads c.in-Err.fault) c.ends_cut.ensures (c.in-Err.ensures.bad seen.payloads seen.held (c.as_slice.ensures ∙ seen.places_are))))

@@ -9,7 +9,7 @@ use Rattle.time_desk.proofs.withdrawal.ready_withdrawal.Goals as goal
 
 pub returns-in-Ok-clause-notes : goal.returns-in-Ok-clause-notes
 returns-in-Ok-clause-notes g c =
-    found_there c.ready_beside.result (λ (place : Place) (found : Found). NotesNone place c.args.desk.now.notes (asked_then c.args.desk.now.kept false c.args.made) found.remade.shelf.notes) (λ (found : Found). found.bytes)
+    found_there c.ready_beside.result (λ (place : Place) (found : Found). NotesNone place c.args.desk.now.notes c.args.desk.now.kept.texts (asked_then c.args.desk.now.kept false c.args.made) found.remade.shelf.notes) (λ (found : Found). found.bytes)
     c.next_place-place.result c.args.journal.now.gate c.in-Ok.bytes c.next_place-place.ensures c.ready_beside.ensures.bytes c.ready_beside.ensures.notes
 
 pub returns-in-Ok-clause-made : goal.returns-in-Ok-clause-made

@@ -30,7 +30,7 @@ returns-in-Ok-seal_found-clause-done g c = λ disk reads is.
     done.sealed.ok done.sealed.still_open
     (λ runs. record { house = told.house; aliases = told.aliases; base = told.base; runs = runs; timeline = told.timeline; below = told.below; named = told.named; fresh = told.fresh; undone = told.undone }) c.requires.fit kept_is
     (done.marks ∙ (λ j. marks_at_or_before (c.in-Ok.ensures.place j) (c.in-Ok.ensures.same_marks j)))
-    (subst (λ notes. NotesNone (record { gate = c.args.journal.now.gate; length = length found.bytes }) c.args.desk.now.notes (asked_then c.args.desk.now.kept false c.args.made) notes) (sym done.notes) c.in-Ok.ensures.notes))
+    (subst (λ notes. NotesNone (record { gate = c.args.journal.now.gate; length = length found.bytes }) c.args.desk.now.notes c.args.desk.now.kept.texts (asked_then c.args.desk.now.kept false c.args.made) notes) (sym done.notes) c.in-Ok.ensures.notes))
 
 pub returns-in-Ok-seal_found-clause-noted : goal.returns-in-Ok-seal_found-clause-noted
 returns-in-Ok-seal_found-clause-noted g c = λ is. record {
@@ -40,11 +40,11 @@ returns-in-Ok-seal_found-clause-noted g c = λ is. record {
       let new = c.seal_found.new in
       let kept_is = done.kept ∙ ap (λ (k : Kept). remade_as k found.remade) c.in-Ok.ensures.kept ∙ c.in-Ok.ensures.made in
       let later : c.args.journal.now.gate ≤ new.journal.gate = omega (arith, done.sealed.next) in
-      withdrawal_notes c.args.journal.now.gate new.journal.gate old new.desk c.args.at c.args.of ⊥ c.args.made _ later is c.requires.fit (ap items_asked kept_is)
-      (subst (λ notes. NotesNone (record { gate = c.args.journal.now.gate; length = length found.bytes }) old.notes (asked_then old.kept false c.args.made) notes) (sym done.notes) c.in-Ok.ensures.notes)
-      (subst (λ notes. SizesOf notes (asked_then old.kept false c.args.made)) (sym done.notes)
-      (subst (SizesOf found.remade.shelf.notes) (ap items_asked c.in-Ok.ensures.made)
-      (subst (λ (k : Kept). SizesOf found.remade.shelf.notes (items_asked (remade_as k found.remade))) c.in-Ok.ensures.kept c.in-Ok.ensures.ready.sizes)))
+      withdrawal_notes c.args.journal.now.gate new.journal.gate old new.desk c.args.at c.args.of ⊥ c.args.made _ later is c.requires.fit c.stands.ensures.base c.args.key.now kept_is
+      (subst (λ notes. NotesNone (record { gate = c.args.journal.now.gate; length = length found.bytes }) old.notes old.kept.texts (asked_then old.kept false c.args.made) notes) (sym done.notes) c.in-Ok.ensures.notes)
+      (subst (λ notes. SizesOf notes old.kept.texts (asked_then old.kept false c.args.made)) (sym done.notes)
+      (subst (SizesOf found.remade.shelf.notes old.kept.texts) (ap items_asked c.in-Ok.ensures.made)
+      (subst (λ (k : Kept). SizesOf found.remade.shelf.notes k.texts (items_asked (remade_as k found.remade))) c.in-Ok.ensures.kept c.in-Ok.ensures.ready.sizes)))
       c.requires.noted.noted);
   marked = (let old = c.args.desk.now in
       let new = c.seal_found.new in

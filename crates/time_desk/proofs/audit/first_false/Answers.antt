@@ -1,0 +1,39 @@
+use Rattle.std.proofs.Common.{◌++◌, ◌∙◌, ℕ, Bool, length, subst, sym}
+use Rattle.seal_log.specs.Journal.{sealed}
+use Rattle.desk_journal.specs.Going.{read_on}
+use Rattle.desk_journal.specs.Records.{payloads_of}
+use Rattle.desk_journal.specs.Stored.{AreNoted}
+use Rattle.time_desk.specs.Auditing.{Judges}
+use Rattle.time_desk.proofs.Judging.{next_left, none_left}
+use Rattle.time_desk.proofs.audit.first_false.Goals as goal
+
+pub loop-place-preserved : goal.loop-place-preserved
+loop-place-preserved g c = record {
+  still = read_on g.D.Disk.told c.args.past.now c.loop-place.past c.judge.new.past c.loop-place.invariant.still c.judge.ensures.still;
+  none_failed = c.in-Ok-true.ensures.cause.ok ∙ c.loop-place.invariant.none_failed;
+  left = λ before records kept texts are leaves.
+      let all = before ++ payloads_of records in
+      let next = next_left all c.args.places.now c.loop-place.place-index (record { gate = 0; length = 0 }) c.args.desk.now.kept c.loop-place.desk.kept kept (length (sealed before)) records c.loop-place-test.true
+      (c.loop-place.invariant.left before records kept texts are leaves) in
+      next.goes c.judge.new.desk.kept (subst (λ (b : Bool). Judges c.loop-place.desk.kept next.what b c.judge.new.desk.kept) c.in-Ok-true.field-0-test
+      (c.in-Ok-true.ensures.judged all next.what (c.loop-place.invariant.texts before records kept texts are leaves) next.lies next.spelled));
+  texts = λ before records kept texts are leaves.
+      let all = before ++ payloads_of records in
+      let next = next_left all c.args.places.now c.loop-place.place-index (record { gate = 0; length = 0 }) c.args.desk.now.kept c.loop-place.desk.kept kept (length (sealed before)) records c.loop-place-test.true
+      (c.loop-place.invariant.left before records kept texts are leaves) in
+      c.in-Ok-true.ensures.texts all next.what (c.loop-place.invariant.texts before records kept texts are leaves) next.lies next.spelled c.in-Ok-true.field-0-test;
+  noted = subst (λ (n : ℕ). AreNoted n c.judge.new.desk) (sym c.judge.ensures.still.end) (c.in-Ok-true.ensures.noted c.in-Ok-true.field-0-test);
+}
+
+pub returns-in-Ok-false-clause-found : goal.returns-in-Ok-false-clause-found
+returns-in-Ok-false-clause-found g c before records kept texts are leaves =
+    let all = before ++ payloads_of records in
+    let next = next_left all c.args.places.now c.loop-place.place-index (record { gate = 0; length = 0 }) c.args.desk.now.kept c.loop-place.desk.kept kept (length (sealed before)) records c.loop-place-test.true
+    (c.loop-place.invariant.left before records kept texts are leaves) in
+    next.stops c.judge.new.desk.kept (subst (λ (b : Bool). Judges c.loop-place.desk.kept next.what b c.judge.new.desk.kept) c.in-Ok-false.field-0-test
+    (c.in-Ok-false.ensures.judged all next.what (c.loop-place.invariant.texts before records kept texts are leaves) next.lies next.spelled))
+
+pub returns-clause-found : goal.returns-clause-found
+returns-clause-found g c before records kept texts are leaves =
+    none_left (before ++ payloads_of records) c.args.places.now c.loop-place.place-index c.args.desk.now.kept c.loop-place.desk.kept kept (length (sealed before)) records c.loop-place-test.false
+    (c.loop-place.invariant.left before records kept texts are leaves)

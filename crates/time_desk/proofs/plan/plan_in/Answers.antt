@@ -1,0 +1,26 @@
+use Rattle.std.proofs.Common.{◌≡◌, ◌⊎◌, Result, List, ℕ, false, ap, subst, sym, ◌∙◌}
+use Rattle.std.specs.Prelude.{IfOk}
+use Rattle.verb_core.specs.declared.item.Item.{Item}
+use Rattle.repair_desk.specs.Repairs.{position}
+use Rattle.desk_journal.specs.Lasting.{JournalTold}
+use Rattle.desk_journal.specs.Telling.{HoldsHeld}
+use Rattle.time_desk.specs.declared.fault.CycleFault.{CycleFault}
+use Rattle.time_desk.specs.Planning.{Plans}
+use Rattle.time_desk.specs.Replaying.{reads_behind}
+use Rattle.time_desk.proofs.plan.plan_in.Goals.{in-Ok, in-Err-Failed, in-Err-NoMemory}
+use Rattle.time_desk.proofs.plan.plan_in.Goals as goal
+
+pub returns-clause-text : goal.returns-clause-text
+returns-clause-text g c =
+    let desk = c.args.desk.now in
+    let told = g.D.Disk.told c.args.journal.now.disk in
+    elim c.match-plan_from_newest.branch [
+      | in-Ok w ↦
+          subst (λ (r : Result (List ℕ) CycleFault). IfOk r (Plans desk.kept c.args.point (HoldsHeld told desk))) (sym w.result-is) (
+            c.in-Some.place,
+            ap (λ (t : List Item). position t c.args.point) (sym c.all_items.ensures) ∙ sym c.in-Some.ensures.place,
+            λ holds. w.in-Ok.ensures.text (subst (λ (j : JournalTold g.row.D.Denot). HoldsHeld (g.D.Disk.told j.disk) desk ⊎ (reads_behind desk.kept c.in-Some.place ≡ false)) (sym c.journal.view_is) holds),
+          )
+      | in-Err-Failed w ↦ subst (λ (r : Result (List ℕ) CycleFault). IfOk r (Plans desk.kept c.args.point (HoldsHeld told desk))) (sym w.result-is) tt
+      | in-Err-NoMemory w ↦ subst (λ (r : Result (List ℕ) CycleFault). IfOk r (Plans desk.kept c.args.point (HoldsHeld told desk))) (sym w.result-is) tt
+    ]

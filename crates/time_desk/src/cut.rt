@@ -1,0 +1,417 @@
+//! What a cut at a point is made of: the payloads of Format and Base, the bodies in the base, and the later items.
+ghost use Rattle.std.specs.Prelude.{◌≡◌, ◌<◌, ◌≤◌, ◌+◌, ◌++◌, ◌∷◌, [], ℕ, List, length, map, take, drop, is_some, IsTrue, IfOk, IfErr, OnOk};
+ghost use Rattle.std.specs.List.{AllByRecursion, list_all};
+ghost use Rattle.verb_core.specs.declared.item.Item.{Item as TheItem};
+ghost use Rattle.verb_core.specs.Items.{IsWellFormed, text_in};
+ghost use Rattle.verb_core.specs.Step.{run};
+ghost use Rattle.verb_core.specs.Store.{IsValid};
+ghost use Rattle.verb_bytes.specs.declared.journal.JournalRecord.TheVariants.{Base as BaseRecord, Format, Kept as KeptRecord};
+ghost use Rattle.verb_bytes.specs.Spelling.{HasSpelling, record_bytes};
+ghost use Rattle.store_kept.specs.Texts.{all_bodies, has_text_kept};
+ghost use Rattle.replay_crew.specs.Hearing.{Counts, HoldsOf, StoresOf, TellsAll};
+ghost use Rattle.cycle_rules.specs.Cutting.{bodies_of, cut};
+ghost use Rattle.mail_desk.specs.Counting.{bare_item};
+ghost use Rattle.mail_desk.specs.Timeline.{body_of};
+ghost use Rattle.desk_journal.specs.Reading.{IsStill};
+ghost use Rattle.desk_journal.specs.Stored.{HoldsTexts, MarkedBefore, TextsNoted, store_at};
+ghost use Rattle.desk_journal.specs.Telling.{HoldsHeld, IsOnlyRead, IsPastRead};
+ghost use Rattle.time_desk.specs.Cutting.{AreParts, Cuts, CutsNone, LedBy, bodies_once, body_key, key_body, keys_once};
+ghost use Rattle.time_desk.specs.Planning.{BodiesCause};
+ghost use Rattle.time_desk.specs.Serving.{Serves};
+
+use crate::beginning::beginning;
+use crate::plan::copies;
+use crate::redo::new_texts;
+use crate::{CycleFault, Desk};
+use base_cut::{BodyList, CutParts};
+use box_store::{Steps, Store};
+use desk_journal::{Journal, Past, Reading, house_bytes};
+use mail_cycle::{Beginning, Replayed, replay_in_order};
+use mail_desk::laws::bodies_have_texts;
+use repair_desk::position_of;
+use seal_log::ReadFault;
+use std::alloc::Global;
+use std::collections::BTreeSet;
+use std::marker::Brand;
+use std::sync::ledger::{Blank, Ledger};
+use stored_items::{StoredItem, StoredItems};
+use undo_base::{NoMemory, Text};
+use undo_outside::Disk;
+use verb_bytes::{Unwritten, spell_base, spell_kept};
+use verb_core::{Bodies, BodiesFault, Body, BoxId, Entry, Item, Items, Mailbox};
+
+// ---- the store of the base
+
+/// The store that more items lead to, with nothing counted, over a counter that is made of the blank ledger.
+fn led_over<B: Bodies, L: Ledger>(
+    alloc: Global,
+    store: Store,
+    bodies: &mut B,
+    items: StoredItems,
+    blank: Blank,
+) -> Result<Store, BodiesFault>
+    requires name { blank.name ≡ L.name }
+    requires parts { blank.parts ≡ L.parts }
+    requires some { 0 < blank.parts }
+    requires valid { IsValid store.store }
+    requires formed { AllByRecursion (IsWellFormed store.store.house) items }
+    requires held { AllByRecursion (HoldsOf (B.told bodies.old)) items }
+    ensures heard { IfOk result (λ made. LedBy store.store items made.store) }
+    ensures store { (B.told bodies.old).honest → AllByRecursion (StoresOf (B.told bodies.old)) items → IfOk result (λ made. made.store ≡ run store.store items) }
+    ensures reads { Counts (B.told bodies.old) (B.told bodies.new) result }
+    ensures leads { B.leads bodies.old bodies.new }
+{
+    let mut steps: Steps<L> = Steps::new(blank);
+    let count = items.len();
+    match replay_in_order(alloc, store, bodies, items, count, &mut steps) {
+        Ok(made) => Ok(store_of(made)),
+        Err(fault) => Err(fault),
+    }
+}
+
+/// The store of items that were performed.
+fn store_of(made: Replayed) -> Store
+    ensures { result ≡ made.store }
+{
+    let Replayed {
+        items,
+        store,
+        shows,
+    } = made;
+    drop(items);
+    drop(shows);
+    store
+}
+
+/// The store that items lead to from a beginning on.
+fn led<B: Bodies>(
+    alloc: Global,
+    store: Store,
+    bodies: &mut B,
+    items: &[StoredItem],
+) -> Result<Store, BodiesFault>
+    requires valid { IsValid store.store }
+    requires formed { AllByRecursion (IsWellFormed store.store.house) items.now }
+    requires held { AllByRecursion (HoldsOf (B.told bodies.old)) items.now }
+    ensures heard { IfOk result (λ made. LedBy store.store items.now made.store) }
+    ensures store { (B.told bodies.old).honest → AllByRecursion (StoresOf (B.told bodies.old)) items.now → IfOk result (λ made. made.store ≡ run store.store items.now) }
+    ensures reads { Counts (B.told bodies.old) (B.told bodies.new) result }
+    ensures leads { B.leads bodies.old bodies.new }
+{
+    match copies(alloc, items) {
+        Ok(copies) => led_over::<B, Brand>(
+            alloc,
+            store,
+            bodies,
+            StoredItems::from_vec(copies),
+            Blank::new(1),
+        ),
+        Err(NoMemory) => {
+            drop(store);
+            Err(BodiesFault::NoMemory)
+        }
+    }
+}
+
+/// The items from one place of the timeline to another.
+fn between(items: &[StoredItem], from: usize, to: usize) -> &[StoredItem]
+    requires from { from ≤ to }
+    requires to { to ≤ length items.now }
+    ensures { result.now ≡ drop from (take to items.now) }
+{
+    items.split_at(to).0.split_at(from).1
+}
+
+/// The store that the items through a place led to, from a beginning at or before it on.
+fn led_behind<B: Bodies>(
+    alloc: Global,
+    desk: &mail_desk::Desk,
+    first: Beginning,
+    bodies: &mut B,
+    place: usize,
+) -> Result<Store, BodiesFault>
+    requires place { place ≤ length desk.now.kept.timeline }
+    requires serves { Serves desk.now.kept place first }
+    requires texts { TellsAll (B.told bodies.old) desk.now.kept.timeline }
+    ensures store { (B.told bodies.old).honest → first.store.store ≡ store_at desk.now.kept first.count → IfOk result (λ made. made.store ≡ store_at desk.now.kept place) }
+    ensures texts { IfOk result (λ made. IsTrue (all_bodies (has_text_kept desk.now.kept) made.store.boxes)) }
+    ensures reads { Counts (B.told bodies.old) (B.told bodies.new) result }
+    ensures leads { B.leads bodies.old bodies.new }
+{
+    desk.stands();
+    bodies_have_texts();
+    let Beginning { store, count } = first;
+    led(
+        alloc,
+        store,
+        bodies,
+        between(desk.all_items(), count, place),
+    )
+}
+
+/// The same, with texts read before a gate.
+fn store_from<D: Disk>(
+    alloc: Global,
+    past: &mut Past<D>,
+    desk: &mail_desk::Desk,
+    first: Beginning,
+    place: usize,
+) -> Result<Store, BodiesFault>
+    requires noted { TextsNoted past.old.end desk.now.notes desk.now.kept }
+    requires place { place ≤ length desk.now.kept.timeline }
+    requires serves { Serves desk.now.kept place first }
+    ensures store { HoldsHeld (D.told past.old.disk) desk.now → first.store.store ≡ store_at desk.now.kept first.count → IfOk result (λ made. made.store ≡ store_at desk.now.kept place) }
+    ensures texts { IfOk result (λ made. IsTrue (all_bodies (has_text_kept desk.now.kept) made.store.boxes)) }
+    ensures cause { BodiesCause (D.told past.old.disk) (D.told past.new.disk) result }
+    ensures still { IsPastRead D.told past.old past.new }
+{
+    desk.stands();
+    let texts = new_texts(alloc, &[])?;
+    let mut bodies = Reading::of(past, desk, &texts, desk.next());
+    led_behind(alloc, desk, first, &mut bodies, place)
+}
+
+/// The same from the newest snapshot that can serve.
+fn store_through<D: Disk>(
+    alloc: Global,
+    past: &mut Past<D>,
+    desk: &mail_desk::Desk,
+    place: usize,
+) -> Result<Store, BodiesFault>
+    requires noted { TextsNoted past.old.end desk.now.notes desk.now.kept }
+    requires marked { MarkedBefore past.old.end desk.now.marks }
+    requires place { place ≤ length desk.now.kept.timeline }
+    ensures store { HoldsHeld (D.told past.old.disk) desk.now → IfOk result (λ made. made.store ≡ store_at desk.now.kept place) }
+    ensures texts { IfOk result (λ made. IsTrue (all_bodies (has_text_kept desk.now.kept) made.store.boxes)) }
+    ensures cause { BodiesCause (D.told past.old.disk) (D.told past.new.disk) result }
+    ensures still { IsPastRead D.told past.old past.new }
+{
+    match beginning(alloc, past, desk, place) {
+        Ok(first) => store_from(alloc, past, desk, first, place),
+        Err(ReadFault::Disk) => Err(BodiesFault::Failed),
+        Err(ReadFault::NoMemory) => Err(BodiesFault::NoMemory),
+    }
+}
+
+// ---- the bodies of the base
+
+/// Adds the bodies that entries name.
+fn push_named(bodies: &mut Vec<Body>, entries: &[Entry]) -> Result<(), NoMemory>
+    ensures { OnOk result (bodies.new.items ≡ bodies.old.items ++ map (λ e. e.body) entries.now) }
+{
+    for entry in entries {
+        bodies.push(entry.body)?;
+    }
+    Ok(())
+}
+
+/// The bodies that the entries of mailboxes name, in their order.
+fn named(alloc: Global, rows: &[(BoxId, Mailbox)]) -> Result<Vec<Body>, NoMemory>
+    ensures { IfOk result (λ bodies. bodies.items ≡ bodies_of rows.now) }
+{
+    let mut bodies = Vec::new(alloc);
+    for row in rows {
+        push_named(&mut bodies, row.1.entries.as_slice())?;
+    }
+    Ok(bodies)
+}
+
+/// The origin and the rev of a body, by which bodies stand in order.
+fn key_of(body: Body) -> (u32, u32)
+    ensures { result ≡ body_key body }
+{
+    (body.origin, body.rev)
+}
+
+/// The keys of bodies, each once, from the last body to the first.
+fn keys_of(alloc: Global, bodies: &[Body]) -> Result<BTreeSet<(u32, u32)>, NoMemory>
+    ensures { IfOk result (λ set. set.keys ≡ keys_once bodies.now) }
+{
+    let mut set = BTreeSet::new(alloc);
+    let mut place = bodies.len();
+    while place > 0 {
+        place -= 1;
+        set.insert(key_of(bodies[place]))?;
+    }
+    Ok(set)
+}
+
+/// The bodies of keys.
+fn bodies_with(alloc: Global, keys: &BTreeSet<(u32, u32)>) -> Result<BodyList, NoMemory>
+    ensures { IfOk result (λ bodies. bodies ≡ map key_body keys.now.keys) }
+{
+    let mut bodies = BodyList::new(alloc);
+    for key in keys {
+        bodies.push(Body {
+            origin: key.0,
+            rev: key.1,
+        })?;
+    }
+    Ok(bodies)
+}
+
+/// The bodies that the entries of mailboxes name, each once, by rising origin and rev.
+fn bodies_in(alloc: Global, rows: &[(BoxId, Mailbox)]) -> Result<BodyList, NoMemory>
+    ensures { IfOk result (λ bodies. bodies ≡ bodies_once (bodies_of rows.now)) }
+{
+    let bodies = named(alloc, rows)?;
+    let keys = keys_of(alloc, bodies.as_slice())?;
+    bodies_with(alloc, &keys)
+}
+
+// ---- its parts
+
+/// The payload of the Base of a store, beside what the desk keeps. One without a spelling finds no memory.
+fn base_bytes(
+    alloc: Global,
+    desk: &mail_desk::Desk,
+    store: &Store,
+    rows: &[(BoxId, Mailbox)],
+) -> Result<Text, NoMemory>
+    ensures spelled { OnOk result (HasSpelling (BaseRecord desk.now.kept.next desk.now.kept.deep store.now.store.conf rows.now desk.now.kept.stamps desk.now.kept.reports)) }
+    ensures bytes { IfOk result (λ bytes. bytes ≡ record_bytes (BaseRecord desk.now.kept.next desk.now.kept.deep store.now.store.conf rows.now desk.now.kept.stamps desk.now.kept.reports)) }
+{
+    match spell_base(
+        alloc,
+        desk.next(),
+        desk.deep(),
+        store.conf(),
+        rows,
+        desk.stamps().as_slice(),
+        desk.reports(),
+    ) {
+        Ok(bytes) => Ok(bytes),
+        Err(Unwritten::Unspelled) => Err(NoMemory),
+        Err(Unwritten::NoMemory) => Err(NoMemory),
+    }
+}
+
+/// Finds no memory where the Kept of an item has no spelling.
+fn check_item(alloc: Global, item: &Item) -> Result<(), NoMemory>
+    ensures { OnOk result (HasSpelling (KeptRecord item.now)) }
+{
+    match spell_kept(alloc, item) {
+        Ok(_bytes) => Ok(()),
+        Err(Unwritten::Unspelled) => Err(NoMemory),
+        Err(Unwritten::NoMemory) => Err(NoMemory),
+    }
+}
+
+/// The same of items.
+fn check_spelled(alloc: Global, items: &[Item]) -> Result<(), NoMemory>
+    ensures { OnOk result (AllByRecursion (λ (i : TheItem). HasSpelling (KeptRecord i)) items.now) }
+{
+    for item in items {
+        check_item(alloc, item)?;
+    }
+    Ok(())
+}
+
+/// The items behind a place, without their texts, each of which has a spelling in its Kept.
+fn kept_behind(alloc: Global, desk: &mail_desk::Desk, place: usize) -> Result<Items, NoMemory>
+    requires { place ≤ length desk.now.kept.timeline }
+    ensures items { IfOk result (λ items. items ≡ map bare_item (drop place desk.now.kept.timeline)) }
+    ensures spelled { IfOk result (λ items. AllByRecursion (λ (i : TheItem). HasSpelling (KeptRecord i)) items) }
+{
+    let items = desk.bare_behind(alloc, place)?;
+    check_spelled(alloc, items.as_slice())?;
+    Ok(items)
+}
+
+/// The parts of a cut at a place, where the items through it led to this store.
+fn parts_of(
+    alloc: Global,
+    desk: &mail_desk::Desk,
+    store: &Store,
+    place: usize,
+) -> Result<CutParts, NoMemory>
+    requires place { place ≤ length desk.now.kept.timeline }
+    requires texts { IsTrue (all_bodies (has_text_kept desk.now.kept) store.now.store.boxes) }
+    ensures parts { store.now.store ≡ store_at desk.now.kept place → IfOk result (AreParts (cut desk.now.kept place)) }
+    ensures bodies { IfOk result (λ parts. IsTrue (list_all (has_text_kept desk.now.kept) parts.bodies)) }
+    ensures texts { IfOk result (λ parts. AllByRecursion (λ (i : TheItem). IsTrue (is_some (text_in i.deed)) → IsTrue (has_text_kept desk.now.kept (body_of i))) parts.kept) }
+    ensures spelled { IfOk result (λ parts. AllByRecursion (λ (i : TheItem). HasSpelling (KeptRecord i)) parts.kept) }
+{
+    let kept = kept_behind(alloc, desk, place)?;
+    let rows = store.rows(alloc)?;
+    let boxes = rows.as_slice();
+    let bodies = bodies_in(alloc, boxes)?;
+    let base = base_bytes(alloc, desk, store, boxes)?;
+    let head = house_bytes(alloc, desk.house(), desk.opening())?;
+    Ok(CutParts {
+        head,
+        base,
+        bodies,
+        kept,
+    })
+}
+
+/// The parts of a cut at a place.
+fn parts_at<D: Disk>(
+    alloc: Global,
+    past: &mut Past<D>,
+    desk: &mail_desk::Desk,
+    place: usize,
+) -> Result<CutParts, BodiesFault>
+    requires noted { TextsNoted past.old.end desk.now.notes desk.now.kept }
+    requires marked { MarkedBefore past.old.end desk.now.marks }
+    requires place { place ≤ length desk.now.kept.timeline }
+    ensures parts { HoldsHeld (D.told past.old.disk) desk.now → IfOk result (AreParts (cut desk.now.kept place)) }
+    ensures bodies { IfOk result (λ parts. IsTrue (list_all (has_text_kept desk.now.kept) parts.bodies)) }
+    ensures texts { IfOk result (λ parts. AllByRecursion (λ (i : TheItem). IsTrue (is_some (text_in i.deed)) → IsTrue (has_text_kept desk.now.kept (body_of i))) parts.kept) }
+    ensures spelled { IfOk result (λ parts. AllByRecursion (λ (i : TheItem). HasSpelling (KeptRecord i)) parts.kept) }
+    ensures cause { BodiesCause (D.told past.old.disk) (D.told past.new.disk) result }
+    ensures still { IsPastRead D.told past.old past.new }
+{
+    let store = store_through(alloc, past, desk, place)?;
+    match parts_of(alloc, desk, &store, place) {
+        Ok(parts) => Ok(parts),
+        Err(NoMemory) => Err(BodiesFault::NoMemory),
+    }
+}
+
+/// The parts of a cut at a point of a desk.
+fn cut_in<D: Disk>(
+    alloc: Global,
+    journal: &mut Journal<D>,
+    desk: &mail_desk::Desk,
+    point: u32,
+) -> Result<CutParts, CycleFault>
+    requires noted { TextsNoted journal.old.gate desk.now.notes desk.now.kept }
+    requires marked { MarkedBefore journal.old.gate desk.now.marks }
+    ensures parts { IfOk result (Cuts desk.now.kept point (HoldsHeld (D.told journal.old.disk) desk.now)) }
+    ensures bodies { IfOk result (λ parts. IsTrue (list_all (has_text_kept desk.now.kept) parts.bodies)) }
+    ensures texts { IfOk result (λ parts. AllByRecursion (λ (i : TheItem). IsTrue (is_some (text_in i.deed)) → IsTrue (has_text_kept desk.now.kept (body_of i))) parts.kept) }
+    ensures spelled { IfOk result (λ parts. AllByRecursion (λ (i : TheItem). HasSpelling (KeptRecord i)) parts.kept) }
+    ensures why { IfErr result (CutsNone desk.now.kept point (D.told journal.old.disk) (D.told journal.new.disk)) }
+    ensures ok { OnOk result ((D.told journal.new.disk).failed_reads ≡ (D.told journal.old.disk).failed_reads) }
+    ensures still { IsOnlyRead D.told journal.old journal.new }
+{
+    let Some(place) = position_of(desk.all_items(), point) else {
+        return Err(CycleFault::Point { given: point });
+    };
+    match parts_at(alloc, &mut journal.past, desk, place) {
+        Ok(parts) => Ok(parts),
+        Err(BodiesFault::Failed) => Err(CycleFault::Disk),
+        Err(BodiesFault::NoMemory) => Err(CycleFault::NoMemory),
+    }
+}
+
+impl<D: Disk> Desk<D> {
+    /// What a cut at a point is made of: its past up to there becomes the base of a new journal, and the later items are kept. Each text
+    /// that is asked for is held by this desk. It begins with the newest snapshot at or before the point, and each delivery's text
+    /// behind that is read, once; at `Disk` a read failed, and a later call may succeed. Nothing changes, and nothing is written. In
+    /// time that grows as the search for the point, the mailboxes, the bodies times the logarithm of their number, the items, and
+    /// these texts.
+    pub fn cut_parts(&mut self, alloc: Global, point: u32) -> Result<CutParts, CycleFault>
+        ensures parts { IfOk result (Cuts self.old.kept point (HoldsTexts D.told self.old)) }
+        ensures bodies { IfOk result (λ parts. IsTrue (list_all (has_text_kept self.new.kept) parts.bodies)) }
+        ensures texts { IfOk result (λ parts. AllByRecursion (λ (i : TheItem). IsTrue (is_some (text_in i.deed)) → IsTrue (has_text_kept self.new.kept (body_of i))) parts.kept) }
+        ensures spelled { IfOk result (λ parts. AllByRecursion (λ (i : TheItem). HasSpelling (KeptRecord i)) parts.kept) }
+        ensures why { IfErr result (CutsNone self.old.kept point (D.told self.old.disk) (D.told self.new.disk)) }
+        ensures ok { OnOk result ((D.told self.new.disk).failed_reads ≡ (D.told self.old.disk).failed_reads) }
+        ensures still { IsStill D.told self.old self.new }
+    {
+        cut_in(alloc, &mut self.journal, &self.desk, point)
+    }
+}
