@@ -16,8 +16,8 @@ pub struct Head {
     pub fields: usize,
 }
 
-/// The whole lines that bytes begin with, as far as they were looked at: their octets, whether the request line is
-/// among them, their header lines, and how many octets behind them have no LF.
+/// The whole lines that bytes begin with, as far as they were looked at. Told are their octets, whether the request line is among
+/// them, their header lines, and how many octets behind them have no LF.
 #[derive(Clone, Copy, Debug)]
 pub struct Lines {
     pub start: usize,

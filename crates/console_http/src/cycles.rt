@@ -58,7 +58,6 @@ fn key_at(alloc: Global, value: &Value) -> Result<Option<Name>, NoMemory>
     }
 }
 
-/// The number of an item.
 fn item_number(value: &Value) -> Option<u32>
     ensures { result ≡ whole_number_of 4294967295 (view value.now) }
 {

@@ -12,7 +12,7 @@ pub fn acts_name_known_users()
 {}
 
 /// An act or a cycle that is asked for has a spelling as a record, under each number of 32 bits and at each moment up to the
-/// end of the year 9999.
+/// last.
 pub fn asks_have_spellings()
     ensures { (house : TheHouse) (bytes : List ℕ) (asked : Result TheAsked TheRefused) (number at : ℕ) → IsTrue (is_house house) → number ≤ 4294967295 → at ≤ 253402300799 →
         Asks house bytes asked → AskRecords number at asked }

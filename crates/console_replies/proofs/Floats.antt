@@ -15,7 +15,7 @@ use Rattle.verb_core.specs.declared.conf.Scope.{Scope}
 use Rattle.verb_core.specs.declared.conf.Scope.TheVariants.{Body, Field, Sender, Recipient}
 use Rattle.verb_core.specs.declared.item.Item.{Item}
 use Rattle.verb_core.specs.declared.mailbox.Mailbox.{Mailbox}
-use Rattle.console_replies.specs.declared.bodies.Counts.{Counts}
+use Rattle.console_replies.specs.declared.bodies.StatusCounts.{StatusCounts}
 use Rattle.paradox.specs.declared.reports.Report.{Report}
 use Rattle.console_replies.specs.Bodies.{counted, status_data, body_data}
 use Rattle.console_replies.specs.Timeline.{item_data, timeline_data}
@@ -28,7 +28,7 @@ listed : {A : Type 0} (f : A → Data) → ((a : A) → has_float (f a) ≡ fals
 listed f none [] = refl
 listed f none (x ∷ xs) = rw (none x) (listed f none xs)
 
-pub status_has_none : (d : Data) (c : Counts) → d ≡ status_data c → has_float d ≡ false
+pub status_has_none : (d : Data) (c : StatusCounts) → d ≡ status_data c → has_float d ≡ false
 status_has_none d c e = rw e refl
 
 pub body_has_none : (d : Data) (text : List ℕ) (rev : ℕ) → d ≡ body_data text rev → has_float d ≡ false

@@ -1,5 +1,5 @@
--- Whole answers as they are told, so that a wrong definition does not check: the reports of a filter by mistake and of an infected
--- delivery that was dropped, and configurations with filters of each scope.
+-- Whole answers as they are told, so that a wrong definition does not check. They are the reports of a filter by mistake and of an
+-- infected delivery that was dropped, and configurations with filters of each scope.
 use Rattle.std.proofs.Common.{◌≡◌, refl, ℕ}
 use Rattle.std.specs.Prelude.{List, [], ◌∷◌, length, Option, Some, None, codes}
 use Rattle.std.specs.Fmt.{digits}

@@ -3,7 +3,7 @@ use Rattle.std.specs.Prelude.{ℕ, true, List, codes}
 use Rattle.base64.specs.Engines.{standard}
 use Rattle.base64.specs.GeneralPurpose.{encode_of}
 use Rattle.serde_json.specs.Data.{Data, number, unsigned, boolean, string, object, no_members, member}
-use Rattle.console_replies.specs.declared.bodies.Counts.{Counts}
+use Rattle.console_replies.specs.declared.bodies.StatusCounts.{StatusCounts}
 use Rattle.console_replies.specs.declared.bodies.ErrorWord.{ErrorWord}
 use Rattle.console_replies.specs.declared.bodies.ErrorWord.TheVariants.{Head, Json, Size, Route, Disk, Memory}
 
@@ -11,7 +11,7 @@ abbrev pub counted : ℕ → Data
 counted n = number (unsigned n)
 
 -- the counts of the desk
-abbrev pub status_data : Counts → Data
+abbrev pub status_data : StatusCounts → Data
 status_data c =
     object (member (codes "cycles") (counted c.cycles) (member (codes "items") (counted c.items) (member (codes "messages") (counted c.messages)
     (member (codes "next") (counted c.next) (member (codes "notices") (counted c.notices) (member (codes "users") (counted c.users) no_members))))))

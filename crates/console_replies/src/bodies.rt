@@ -12,7 +12,7 @@ use undo_base::{NoMemory, Text};
 
 /// How many there are of what the desk holds, and the next number.
 #[derive(Clone, Copy, Debug, PartialEq, Eq)]
-pub struct Counts {
+pub struct StatusCounts {
     pub cycles: u32,
     pub items: u32,
     pub messages: u64,
@@ -32,7 +32,7 @@ pub enum ErrorWord {
     Memory,
 }
 
-fn status_value(alloc: Global, c: Counts) -> Result<Value, AllocError>
+fn status_value(alloc: Global, c: StatusCounts) -> Result<Value, AllocError>
     ensures { IfOk result (λ v. view v ≡ status_data c) }
 {
     json!(in alloc; {
@@ -43,7 +43,7 @@ fn status_value(alloc: Global, c: Counts) -> Result<Value, AllocError>
 
 /// The answer to GET /status.
 #[tactic(auto, using(crate::proofs::Floats::status_has_none))]
-pub fn status_json(alloc: Global, counts: Counts) -> Result<Text, NoMemory>
+pub fn status_json(alloc: Global, counts: StatusCounts) -> Result<Text, NoMemory>
     ensures { IfOk result (λ text. text ≡ compact_text (status_data counts)) }
 {
     text_of(alloc, status_value(alloc, counts)?)

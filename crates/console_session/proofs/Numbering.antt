@@ -15,7 +15,7 @@ use Rattle.cycle_rules.specs.Repairing.{leaves_numbers_for}
 use Rattle.cycle_rules.specs.Withdrawals.{withdraw_due, withdraw_due_anew, withdraw_due_at, withdrawn_at}
 use Rattle.verb_core.specs.Deeds.{act_item}
 use Rattle.desk_journal.specs.Records.{after_record, after_records, is_formed, is_spelled}
-use Rattle.console_session.specs.Turn.{done, failed, numbered, numberless}
+use Rattle.console_session.specs.ConsoleTurn.{done, failed, numbered, numberless}
 use Rattle.console_session.specs.Hindrance.{Hindrance, acted_under, sealed_under, told_under}
 
 -- ---- numbers

@@ -24,12 +24,13 @@ use Rattle.console_http.specs.declared.request.Route.TheVariants as route
 use Rattle.console_http.specs.Requests.{Asks}
 use Rattle.console_http.specs.Routes.{Choice, route_of}
 use Rattle.console_replies.specs.Bodies.{upgraded_data}
+use Rattle.time_desk.specs.Replaying.{plan_reads}
 use Rattle.console_session.specs.declared.reply.After.TheVariants.{Closes}
 use Rattle.console_session.specs.declared.reply.Reply.{Reply}
 use Rattle.console_session.specs.Answers.{Answer, answer, body_found, is_text_recorded, pointless, uncycled}
-use Rattle.console_session.specs.Turn.{Turn, chosen, done, failed, numberless, tells, upgrade_done}
+use Rattle.console_session.specs.ConsoleTurn.{ConsoleTurn, chosen, done, failed, numberless, tells, upgrade_done}
 use Rattle.console_session.specs.Hindrance.{Hindrance, Clear, Refused, Unheard, Unanswered, Unsealed, Untold, Unwritten, UnwrittenUnheard, Unread, UnreadRefused, UnreadUnheard, Misread, acted_under, found_under, gone_back_under, hindered, lost, read_under, rewound_under, routed_under, sealed_under, starved, told_under, tried_under, upgraded_under, where_read}
-use Rattle.console_session.specs.Hearing.{Hears, AreServed, IsTurn, Serves, is_failure}
+use Rattle.console_session.specs.Hearing.{Hears, AreServed, IsTurn, AnswersRequest, is_failure}
 use Rattle.console_session.proofs.Turns.{turn_at}
 
 -- ---- want of memory before anything is sealed, whatever is chosen
@@ -46,7 +47,7 @@ starved_try kept ask NoPoint = refl
 starved_try kept ask NoNumbers = refl
 starved_try kept ask (IsDue due) = refl
 
-starved_found : {A : Type 0} → (some : Bool) (kept : Kept) (o : Option A) (t : Turn) → found_under some Refused kept o t ≡ starved kept
+starved_found : {A : Type 0} → (some : Bool) (kept : Kept) (o : Option A) (t : ConsoleTurn) → found_under some Refused kept o t ≡ starved kept
 starved_found some kept None t = refl
 starved_found true kept (Some x) t = refl
 starved_found false kept (Some x) t = refl
@@ -63,7 +64,7 @@ lost_try kept ask NoPoint = refl
 lost_try kept ask NoNumbers = refl
 lost_try kept ask (IsDue due) = refl
 
-lost_found : {A : Type 0} → (some : Bool) (kept : Kept) (o : Option A) (t : Turn) → found_under some Unheard kept o t ≡ lost kept
+lost_found : {A : Type 0} → (some : Bool) (kept : Kept) (o : Option A) (t : ConsoleTurn) → found_under some Unheard kept o t ≡ lost kept
 lost_found some kept None t = refl
 lost_found true kept (Some x) t = refl
 lost_found false kept (Some x) t = refl
@@ -72,9 +73,9 @@ starved_route : (at : ℕ) (kept : Kept) (t : Taken) → routed_under Refused at
 starved_route at kept route.Status = refl
 starved_route at kept (route.Timeline start) = refl
 starved_route at kept (route.Box user name) = refl
-starved_route at kept (route.Body number) = starved_found (is_text_recorded kept.timeline number) kept (body_found kept.timeline number) _
+starved_route at kept (route.Body number) = starved_found (is_text_recorded kept number) kept (body_found kept.timeline number) _
 starved_route at kept route.Conf = refl
-starved_route at kept (route.Plan point) = starved_found true kept (position kept.timeline point) _
+starved_route at kept (route.Plan point) = starved_found (plan_reads kept point) kept (position kept.timeline point) _
 starved_route at kept (route.Act act) = elim (nat_lt kept.next 4194304) as (λ b. (if b then starved kept else starved kept) ≡ starved kept) [ true ↦ refl | false ↦ refl ]
 starved_route at kept (route.Cycle ask) = starved_back kept (pointless ask.point) (Cycle kept.next at ask) (after_cycle kept ask) (cycle_due kept at ask)
 starved_route at kept (route.Try ask) = starved_try kept ask (due_anew kept at ask)
@@ -87,9 +88,9 @@ lost_route : (at : ℕ) (kept : Kept) (t : Taken) → routed_under Unheard at ke
 lost_route at kept route.Status = refl
 lost_route at kept (route.Timeline start) = refl
 lost_route at kept (route.Box user name) = refl
-lost_route at kept (route.Body number) = lost_found (is_text_recorded kept.timeline number) kept (body_found kept.timeline number) _
+lost_route at kept (route.Body number) = lost_found (is_text_recorded kept number) kept (body_found kept.timeline number) _
 lost_route at kept route.Conf = refl
-lost_route at kept (route.Plan point) = lost_found true kept (position kept.timeline point) _
+lost_route at kept (route.Plan point) = lost_found (plan_reads kept point) kept (position kept.timeline point) _
 lost_route at kept (route.Act act) = elim (nat_lt kept.next 4194304) as (λ b. (if b then lost kept else lost kept) ≡ lost kept) [ true ↦ refl | false ↦ refl ]
 lost_route at kept (route.Cycle ask) = lost_back kept (pointless ask.point) (Cycle kept.next at ask) (after_cycle kept ask) (cycle_due kept at ask)
 lost_route at kept (route.Try ask) = lost_try kept ask (due_anew kept at ask)
@@ -108,10 +109,10 @@ lost_choice at kept (Err e) = refl
 
 -- ---- failures: serving ends exactly where there is a record that could not be sealed
 
-abbrev EndsSo : Turn → Type 0
+abbrev EndsSo : ConsoleTurn → Type 0
 EndsSo t = is_failure t.after ≡ not (is_empty t.unsealed)
 
-ends_told : (h : Hindrance) (kept : Kept) (t : Turn) → EndsSo t → EndsSo (told_under h kept t)
+ends_told : (h : Hindrance) (kept : Kept) (t : ConsoleTurn) → EndsSo t → EndsSo (told_under h kept t)
 ends_told Clear kept t e = e
 ends_told Refused kept t e = refl
 ends_told Unheard kept t e = refl
@@ -125,7 +126,7 @@ ends_told UnreadRefused kept t e = e
 ends_told UnreadUnheard kept t e = e
 ends_told (Misread said left) kept t e = e
 
-ends_read : (h : Hindrance) (kept : Kept) (t : Turn) → EndsSo t → EndsSo (read_under h kept t)
+ends_read : (h : Hindrance) (kept : Kept) (t : ConsoleTurn) → EndsSo t → EndsSo (read_under h kept t)
 ends_read Clear kept t e = e
 ends_read Refused kept t e = refl
 ends_read Unheard kept t e = refl
@@ -139,11 +140,11 @@ ends_read UnreadRefused kept t e = refl
 ends_read UnreadUnheard kept t e = refl
 ends_read (Misread said left) kept t e = e
 
-ends_found : {A : Type 0} → (some : Bool) (h : Hindrance) (kept : Kept) (o : Option A) (t : Turn) → EndsSo t → EndsSo (found_under some h kept o t)
+ends_found : {A : Type 0} → (some : Bool) (h : Hindrance) (kept : Kept) (o : Option A) (t : ConsoleTurn) → EndsSo t → EndsSo (found_under some h kept o t)
 ends_found some h kept None t e = ends_told h kept t e
 ends_found some h kept (Some x) t e = ends_read (where_read some h) kept t e
 
-ends_sealed : (h : Hindrance) (kept : Kept) (t u : Turn) → EndsSo t → EndsSo u → EndsSo (sealed_under h kept t u)
+ends_sealed : (h : Hindrance) (kept : Kept) (t u : ConsoleTurn) → EndsSo t → EndsSo u → EndsSo (sealed_under h kept t u)
 ends_sealed Clear kept t u e f = e
 ends_sealed Refused kept t u e f = refl
 ends_sealed Unheard kept t u e f = refl
@@ -157,7 +158,7 @@ ends_sealed UnreadRefused kept t u e f = e
 ends_sealed UnreadUnheard kept t u e f = e
 ends_sealed (Misread said left) kept t u e f = e
 
-ends_rewound : (h : Hindrance) (kept : Kept) (t u : Turn) → EndsSo t → EndsSo u → EndsSo (rewound_under h kept t u)
+ends_rewound : (h : Hindrance) (kept : Kept) (t u : ConsoleTurn) → EndsSo t → EndsSo u → EndsSo (rewound_under h kept t u)
 ends_rewound Clear kept t u e f = e
 ends_rewound Refused kept t u e f = refl
 ends_rewound Unheard kept t u e f = refl
@@ -201,9 +202,9 @@ ends_routed : (h : Hindrance) (at : ℕ) (kept : Kept) (t : Taken) → EndsSo (r
 ends_routed h at kept route.Status = ends_told h kept _ refl
 ends_routed h at kept (route.Timeline start) = ends_told h kept _ refl
 ends_routed h at kept (route.Box user name) = ends_told h kept _ refl
-ends_routed h at kept (route.Body number) = ends_found (is_text_recorded kept.timeline number) h kept (body_found kept.timeline number) _ refl
+ends_routed h at kept (route.Body number) = ends_found (is_text_recorded kept number) h kept (body_found kept.timeline number) _ refl
 ends_routed h at kept route.Conf = ends_told h kept _ refl
-ends_routed h at kept (route.Plan point) = ends_found true h kept (position kept.timeline point) _ refl
+ends_routed h at kept (route.Plan point) = ends_found (plan_reads kept point) h kept (position kept.timeline point) _ refl
 ends_routed h at kept (route.Act act) = ends_acted h at kept act
 ends_routed h at kept (route.Cycle ask) = ends_back h kept (pointless ask.point) (Cycle kept.next at ask) (after_cycle kept ask) (cycle_due kept at ask)
 ends_routed h at kept (route.Try ask) = ends_tried h kept ask (due_anew kept at ask)
@@ -220,16 +221,16 @@ ends_so h at kept (Err why) = ends_told h kept _ refl
 module _ {D : Type 0} (told : D → DiskTold) where
   -- ---- what is asked
 
-  abbrev serves_as : (at : ℕ) (old new : Lasting D) (r : Reply) (a b : Result Asked HttpRefused) → a ≡ b → Serves told at b old new r → Serves told at a old new r
-  serves_as at old new r a b e s = subst (λ (v : Result Asked HttpRefused). Serves told at v old new r) (sym e) s
+  abbrev serves_as : (at : ℕ) (old new : Lasting D) (r : Reply) (a b : Result Asked HttpRefused) → a ≡ b → AnswersRequest told at b old new r → AnswersRequest told at a old new r
+  serves_as at old new r a b e s = subst (λ (v : Result Asked HttpRefused). AnswersRequest told at v old new r) (sym e) s
 
-  as_starved : (at : ℕ) (old new : Lasting D) (r : Reply) (c : Choice) → IsTurn told (starved old.kept) old new r → IsStill told old new → Serves told at (chosen c) old new r
+  as_starved : (at : ℕ) (old new : Lasting D) (r : Reply) (c : Choice) → IsTurn told (starved old.kept) old new r → IsStill told old new → AnswersRequest told at (chosen c) old new r
   as_starved at old new r c turn same = record { hindrance = Refused; turn_is = turn_at told _ _ old new r (starved_choice at old.kept c) turn; still = λ e. same }
 
-  as_lost : (at : ℕ) (old new : Lasting D) (r : Reply) (c : Choice) → IsTurn told (lost old.kept) old new r → IsStill told old new → Serves told at (chosen c) old new r
+  as_lost : (at : ℕ) (old new : Lasting D) (r : Reply) (c : Choice) → IsTurn told (lost old.kept) old new r → IsStill told old new → AnswersRequest told at (chosen c) old new r
   as_lost at old new r c turn same = record { hindrance = Unheard; turn_is = turn_at told _ _ old new r (lost_choice at old.kept c) turn; still = λ e. same }
 
-  wanting : (at : ℕ) (old new : Lasting D) (r : Reply) (c : Choice) (h : Hindrance) → IsTurn told (told_under h old.kept (starved old.kept)) old new r → IsStill told old new → Serves told at (chosen c) old new r
+  wanting : (at : ℕ) (old new : Lasting D) (r : Reply) (c : Choice) (h : Hindrance) → IsTurn told (told_under h old.kept (starved old.kept)) old new r → IsStill told old new → AnswersRequest told at (chosen c) old new r
   wanting at old new r c Clear turn same = as_starved at old new r c turn same
   wanting at old new r c Refused turn same = as_starved at old new r c turn same
   wanting at old new r c Unheard turn same = as_lost at old new r c turn same
@@ -245,7 +246,7 @@ module _ {D : Type 0} (told : D → DiskTold) where
 
   -- what was asked is served, and so are the bytes that ask it
   pub heard : (at : ℕ) (unserved bytes : List ℕ) (old new : Lasting D) (r : Reply) (asked : Result Asked HttpRefused)
-      → Asks old.kept.house (unserved ++ bytes) asked → Serves told at asked old new r → Hears told at unserved bytes old new r
+      → Asks old.kept.house (unserved ++ bytes) asked → AnswersRequest told at asked old new r → Hears told at unserved bytes old new r
   heard at unserved bytes old new r (Ok NotYet) asks s = AreServed (Ok None) asks s
   heard at unserved bytes old new r (Ok (Whole t)) asks s = AreServed (Ok (Some asks.request)) asks.says (serves_as at old new r _ _ (ap chosen asks.route) s)
   heard at unserved bytes old new r (Err Head) asks s = AreServed (Err BadHead) asks s
@@ -257,10 +258,10 @@ module _ {D : Type 0} (told : D → DiskTold) where
 
   -- ---- whether the desk is closed
 
-  closed_by : (t : Turn) (old new : Lasting D) (r : Reply) → old.closed ≡ false → EndsSo t → IsTurn told t old new r → new.closed ≡ is_failure r.after
+  closed_by : (t : ConsoleTurn) (old new : Lasting D) (r : Reply) → old.closed ≡ false → EndsSo t → IsTurn told t old new r → new.closed ≡ is_failure r.after
   closed_by t old new r open_is ends turn =
       turn.seals.closed ∙ ap (λ (b : Bool). b || not (is_empty t.unsealed)) open_is ∙ sym ends ∙ ap (λ (v : Reply). is_failure v.after) (sym turn.reply_is)
 
   -- the desk is closed exactly where the reply says that sealing failed
-  pub serves_closed : (at : ℕ) (asked : Result Asked HttpRefused) (old new : Lasting D) (r : Reply) → old.closed ≡ false → Serves told at asked old new r → new.closed ≡ is_failure r.after
+  pub serves_closed : (at : ℕ) (asked : Result Asked HttpRefused) (old new : Lasting D) (r : Reply) → old.closed ≡ false → AnswersRequest told at asked old new r → new.closed ≡ is_failure r.after
   serves_closed at asked old new r open_is s = closed_by _ old new r open_is (ends_so s.hindrance at old.kept asked) s.turn_is

@@ -30,12 +30,12 @@ use Rattle.console_replies.specs.Reports.{report_data}
 use Rattle.console_session.specs.declared.reply.After.TheVariants.{Closes, Rewinds}
 use Rattle.console_session.specs.declared.reply.Reply.{Reply}
 use Rattle.console_session.specs.Answers.{Answer, answer, answer_text, pointless, uncycled}
-use Rattle.console_session.specs.Turn.{failed, gone_back, rewound, tells}
+use Rattle.console_session.specs.ConsoleTurn.{failed, gone_back, rewound, tells}
 use Rattle.console_session.specs.Hindrance.{Hindrance, Clear, Unanswered, Unread, UnreadRefused, UnreadUnheard, Misread, gone_back_under, rewound_under, told_under, tried_under}
-use Rattle.console_session.specs.Hearing.{Serves, Starves, Tells, TellsCycleFault, TellsDiskFault, TellsOnly, TellsRead, TellsUnread, TellsWithdrawFault, reply}
+use Rattle.console_session.specs.Hearing.{AnswersRequest, Starves, Tells, TellsCycleFault, TellsDiskFault, TellsOnly, TellsRead, TellsUnread, TellsWithdrawFault, reply}
 use Rattle.console_session.proofs.Deciding.{IsSame, kept_decided, text_decided}
 use Rattle.console_session.proofs.Numbering.{record_is_not, IsNew, fresh_is_new, fresh_withdrawal_is_new}
-use Rattle.console_session.proofs.Turns.{Still, Truth, IsQuiet, as_it_was, reads_well, reads_wrong, none_starved, Wants, Under, turn_at, told_turn, unread_turn, starved_unread, lost_unread, read_turn, under_as, serves_told, unsealed_turn, rewound_wants, starved_turn, kept_stays}
+use Rattle.console_session.proofs.Turns.{held_of, Still, Truth, IsQuiet, as_it_was, reads_well, reads_wrong, none_starved, Wants, Under, turn_at, told_turn, unread_turn, starved_unread, lost_unread, read_turn, under_as, serves_told, unsealed_turn, rewound_wants, starved_turn, kept_stays}
 
 module _ {D : Type 0} (told : D → DiskTold) where
   -- ---- by what is due
@@ -171,12 +171,12 @@ module _ {D : Type 0} (told : D → DiskTold) where
   -- ---- cycles
 
   cycles : (at : ℕ) (ask : CycleAsk) (old new : Lasting D) (r : Reply)
-      → ServesDue (pointless ask.point) (Cycle old.kept.next at ask) (after_cycle old.kept ask) (cycle_due old.kept at ask) old new r → Serves told at (Ok (Whole (route.Cycle ask))) old new r
+      → ServesDue (pointless ask.point) (Cycle old.kept.next at ask) (after_cycle old.kept ask) (cycle_due old.kept at ask) old new r → AnswersRequest told at (Ok (Whole (route.Cycle ask))) old new r
   cycles at ask old new r s = record { hindrance = s.0.0; turn_is = s.0.1; still = s.1 }
 
   -- a key that a cycle or a withdrawal had
   pub cycle_known : Still told → Truth told → (at : ℕ) (ask : CycleAsk) (report : Report) (old : Lasting D) (r : Reply) → report_of old.kept.reports ask.key ≡ Some report
-      → Tells (answer 200 (report_data old.kept.house report)) Closes r → Serves told at (Ok (Whole (route.Cycle ask))) old old r
+      → Tells (answer 200 (report_data old.kept.house report)) Closes r → AnswersRequest told at (Ok (Whole (route.Cycle ask))) old old r
   cycle_known still truth at ask report old r e says =
       cycles at ask old old r
       (due_known still truth (pointless ask.point) (Cycle old.kept.next at ask) (after_cycle old.kept ask) (cycle_due old.kept at ask) report old r
@@ -185,14 +185,13 @@ module _ {D : Type 0} (told : D → DiskTold) where
   -- a cycle under a new key is done
   pub cycle_done : (at : ℕ) (ask : CycleAsk) (report : Report) (old new : Lasting D) (r : Reply) → report_of old.kept.reports ask.key ≡ None
       → Cycles told at ask old new report → ReadsWell told old new → Fed (told old.disk) (told new.disk) → TellsOnly (answer 200 (report_data new.kept.house report)) Rewinds r
-      → Serves told at (Ok (Whole (route.Cycle ask))) old new r
+      → AnswersRequest told at (Ok (Whole (route.Cycle ask))) old new r
   cycle_done at ask report old new r fresh by well fed says =
       cycles at ask old new r
       (due_done (pointless ask.point) (Cycle old.kept.next at ask) (after_cycle old.kept ask) (cycle_due old.kept at ask) report old new r (fresh_is_new old.kept at ask fresh) by well fed says)
 
-  -- a cycle is not done
   pub cycle_not_done : Still told → Truth told → (at : ℕ) (ask : CycleAsk) (old new : Lasting D) (f : CycleFault) (r : Reply) → CyclesNone told at ask old new f
-      → CycleWants told old.disk new.disk f → TellsCycleFault new.closed f r → Serves told at (Ok (Whole (route.Cycle ask))) old new r
+      → CycleWants told old.disk new.disk f → TellsCycleFault new.closed f r → AnswersRequest told at (Ok (Whole (route.Cycle ask))) old new r
   cycle_not_done still truth at ask old new (cycle_fault.Point given) r none wants says =
       cycles at ask old new r
       (due_missing still truth (pointless ask.point) (Cycle old.kept.next at ask) (after_cycle old.kept ask) (cycle_due old.kept at ask) old new r none.1 none.3
@@ -212,12 +211,12 @@ module _ {D : Type 0} (told : D → DiskTold) where
 
   withdrawals : (at : ℕ) (key : List ℕ) (of : ℕ) (old new : Lasting D) (r : Reply)
       → ServesDue (uncycled of) (Withdraw old.kept.next at key of) (after_withdrawal old.kept key) (withdraw_due old.kept at key of) old new r
-      → Serves told at (Ok (Whole (route.Withdraw key of))) old new r
+      → AnswersRequest told at (Ok (Whole (route.Withdraw key of))) old new r
   withdrawals at key of old new r s = record { hindrance = s.0.0; turn_is = s.0.1; still = s.1 }
 
   -- a key that a cycle or a withdrawal had
   pub withdrawal_known : Still told → Truth told → (at : ℕ) (key : List ℕ) (of : ℕ) (report : Report) (old : Lasting D) (r : Reply) → report_of old.kept.reports key ≡ Some report
-      → Tells (answer 200 (report_data old.kept.house report)) Closes r → Serves told at (Ok (Whole (route.Withdraw key of))) old old r
+      → Tells (answer 200 (report_data old.kept.house report)) Closes r → AnswersRequest told at (Ok (Whole (route.Withdraw key of))) old old r
   withdrawal_known still truth at key of report old r e says =
       withdrawals at key of old old r
       (due_known still truth (uncycled of) (Withdraw old.kept.next at key of) (after_withdrawal old.kept key) (withdraw_due old.kept at key of) report old r
@@ -226,15 +225,14 @@ module _ {D : Type 0} (told : D → DiskTold) where
   -- a withdrawal under a new key is done
   pub withdrawal_done : (at : ℕ) (key : List ℕ) (of : ℕ) (report : Report) (old new : Lasting D) (r : Reply) → report_of old.kept.reports key ≡ None
       → Withdraws told at key of old new report → ReadsWell told old new → Fed (told old.disk) (told new.disk) → TellsOnly (answer 200 (report_data new.kept.house report)) Rewinds r
-      → Serves told at (Ok (Whole (route.Withdraw key of))) old new r
+      → AnswersRequest told at (Ok (Whole (route.Withdraw key of))) old new r
   withdrawal_done at key of report old new r fresh by well fed says =
       withdrawals at key of old new r
       (due_done (uncycled of) (Withdraw old.kept.next at key of) (after_withdrawal old.kept key) (withdraw_due old.kept at key of) report old new r
       (fresh_withdrawal_is_new old.kept at key of fresh) by well fed says)
 
-  -- a withdrawal is not done
   pub withdrawal_not_done : Still told → Truth told → (at : ℕ) (key : List ℕ) (of : ℕ) (old new : Lasting D) (f : WithdrawFault) (r : Reply) → WithdrawsNone told at key of old new f
-      → WithdrawalWants told old.disk new.disk f → TellsWithdrawFault new.closed f r → Serves told at (Ok (Whole (route.Withdraw key of))) old new r
+      → WithdrawalWants told old.disk new.disk f → TellsWithdrawFault new.closed f r → AnswersRequest told at (Ok (Whole (route.Withdraw key of))) old new r
   withdrawal_not_done still truth at key of old new (withdraw_fault.Cycle given) r none wants says =
       withdrawals at key of old new r
       (due_missing still truth (uncycled of) (Withdraw old.kept.next at key of) (after_withdrawal old.kept key) (withdraw_due old.kept at key of) old new r none.1 none.3
@@ -254,26 +252,26 @@ module _ {D : Type 0} (told : D → DiskTold) where
 
   -- what is tried, by what is due to it
   tried_told : Still told → (at : ℕ) (ask : CycleAsk) (due : Due) (a : Answer) (old new : Lasting D) (r : Reply) → IsQuiet told old new → due_anew old.kept at ask ≡ due
-      → ((h : Hindrance) → tried_under h old.kept ask due ≡ told_under h old.kept (tells a Closes old.kept)) → Tells a Closes r → Serves told at (Ok (Whole (route.Try ask))) old new r
+      → ((h : Hindrance) → tried_under h old.kept ask due ≡ told_under h old.kept (tells a Closes old.kept)) → Tells a Closes r → AnswersRequest told at (Ok (Whole (route.Try ask))) old new r
   tried_told still at ask due a old new r same e as_told says =
       serves_told told still at (Ok (Whole (route.Try ask))) a Closes old new r same (λ h. ap (λ (d : Due). tried_under h old.kept ask d) e ∙ as_told h) says
 
   -- the same of a cycle that is due, whose texts are read
   tried_read : Still told → (at : ℕ) (ask : CycleAsk) (due : Cycled) (old new : Lasting D) (r : Reply) → IsStill told old new → due_anew old.kept at ask ≡ IsDue due
-      → TellsRead told true (answer 200 (report_data old.kept.house due.report)) old new r → Serves told at (Ok (Whole (route.Try ask))) old new r
+      → TellsRead told true (answer 200 (report_data old.kept.house due.report)) old new r → AnswersRequest told at (Ok (Whole (route.Try ask))) old new r
   tried_read still at ask due old new r same e says =
       let u = read_turn told still true (answer 200 (report_data old.kept.house due.report)) old new r same says in
       record { hindrance = u.0; turn_is = turn_at told _ _ old new r (ap (λ (d : Due). tried_under u.0 old.kept ask d) e) u.1; still = λ x. same }
 
   pub try_told : Still told → (at : ℕ) (ask : CycleAsk) (report : Report) (old new : Lasting D) (r : Reply) → IsStill told old new → Tries old.kept at ask (HoldsTexts told old) report → ReadsWell told old new
-      → Tells (answer 200 (report_data new.kept.house report)) Closes r → Serves told at (Ok (Whole (route.Try ask))) old new r
+      → Tells (answer 200 (report_data new.kept.house report)) Closes r → AnswersRequest told at (Ok (Whole (route.Try ask))) old new r
   try_told still at ask report old new r same tries well says =
       let of_old = subst (λ (k : Kept). Tells (answer 200 (report_data k.house report)) Closes r) same.kept says in
       tried_read still at ask tries.0 old new r same tries.1
-      (inl (answer 200 (report_data old.kept.house report), λ h. ap (λ (p : Report). answer 200 (report_data old.kept.house p)) (tries.2 h), well, of_old))
+      (inl (answer 200 (report_data old.kept.house report), λ h. ap (λ (p : Report). answer 200 (report_data old.kept.house p)) (tries.2 (held_of told old h)), well, of_old))
 
   pub try_not_told : Still told → (at : ℕ) (ask : CycleAsk) (old new : Lasting D) (f : CycleFault) (r : Reply) → IsStill told old new
-      → TriesNone old.kept at ask (told old.disk) (told new.disk) f → TellsCycleFault false f r → Serves told at (Ok (Whole (route.Try ask))) old new r
+      → TriesNone old.kept at ask (told old.disk) (told new.disk) f → TellsCycleFault false f r → AnswersRequest told at (Ok (Whole (route.Try ask))) old new r
   try_not_told still at ask old new (cycle_fault.Point given) r same none says =
       tried_told still at ask NoPoint (pointless ask.point) old new r (record { still = same; well = none.2 }) none.0 (λ h. refl)
       (subst (λ (n : ℕ). Tells (pointless n) Closes r) none.1 says)

@@ -1,8 +1,12 @@
 -- The text of an item, and its rev.
 use Rattle.std.proofs.Common.{◌≡◌, ◌&&◌, ℕ, Bool, true, false, ◌==◌, List, [], ◌∷◌, Option, Some, None, refl, sym, ap, subst, eq-eqb}
 use Rattle.std.specs.Prelude.{is_some, option_map}
+use Rattle.std.specs.Option.{option_or}
 use Rattle.verb_core.specs.declared.item.Item.{Item}
+use Rattle.verb_core.specs.declared.mailbox.Body.{Body}
 use Rattle.verb_core.specs.Items.{text_in, text_of}
+use Rattle.store_kept.specs.Kept.{Kept}
+use Rattle.store_kept.specs.Texts.{has_text_kept, text_before, text_kept}
 use Rattle.mail_desk.specs.Timeline.{rev_of}
 use Rattle.console_replies.specs.Bodies.{body_data}
 use Rattle.console_session.specs.Answers.{body_at, body_found, body_told}
@@ -55,9 +59,13 @@ there (i ∷ is) number rev e = elim (i.number == number) as (λ b. (i.number ==
 some_text : (o : Option (List ℕ)) (text : List ℕ) → o ≡ Some text → is_some o ≡ true
 some_text o text e = ap is_some e
 
+-- an item's text is kept
+pub text_there : (kept : Kept) (body : Body) (text : List ℕ) → text_of kept.timeline body ≡ Some text → text_kept kept body ≡ Some text
+text_there kept body text e = ap (λ (o : Option (List ℕ)). option_or o (text_before kept.texts body)) e
+
 -- a body that is there has a text
-pub has_one : (t : List Item) (number rev : ℕ) → rev_of t number ≡ Some rev → is_some (text_of t (body_at number rev)) ≡ true
-has_one t number rev e = let found = there t number rev e in some_text _ found.text found.text_is
+pub has_one : (kept : Kept) (number rev : ℕ) → rev_of kept.timeline number ≡ Some rev → has_text_kept kept (body_at number rev) ≡ true
+has_one kept number rev e = let found = there kept.timeline number rev e in some_text _ found.text (text_there kept (body_at number rev) found.text found.text_is)
 
 -- no rev, and nothing to tell
 pub none_there : (t : List Item) (number : ℕ) → rev_of t number ≡ None → body_found t number ≡ None

@@ -17,16 +17,17 @@ use Rattle.console_head.specs.Request.{Says, Stage}
 use Rattle.console_http.specs.declared.request.Route.{Route}
 use Rattle.console_http.specs.declared.request.Route.TheVariants as route
 use Rattle.console_http.specs.Routes.{Choice, route_of}
+use Rattle.time_desk.specs.Replaying.{plan_reads}
 use Rattle.console_session.specs.declared.reply.After.TheVariants.{Closes, Fails, Rewinds as IsRewound, Stops, Upgrades, Waits}
 use Rattle.console_session.specs.declared.reply.Reply.{Reply}
 use Rattle.console_replies.specs.Bodies.{upgraded_data}
 use Rattle.console_session.specs.Answers.{Answer, answer, body_found, is_text_recorded, pointless, uncycled}
 use Rattle.console_session.specs.Hearing.{Hears, AreServed, IsUnfed}
-use Rattle.console_session.specs.Turn.{Turn, asked_of, chosen, done, failed, numberless, tells, upgrade_done}
+use Rattle.console_session.specs.ConsoleTurn.{ConsoleTurn, asked_of, chosen, done, failed, numberless, tells, upgrade_done}
 use Rattle.console_session.specs.Hindrance.{Hindrance, Clear, Refused, Unheard, Unanswered, Unsealed, Untold, Unwritten, UnwrittenUnheard, Unread, UnreadRefused, UnreadUnheard, Misread, acted_under, found_under, gone_back_under, hindered, read_under, rewound_under, routed_under, sealed_under, told_under, tried_under, upgraded_under, where_read}
 
 -- what follows is not that more bytes are waited for
-abbrev Ends : Turn → Type 0
+abbrev Ends : ConsoleTurn → Type 0
 Ends t = t.after ≡ Waits → ⊥
 
 closing : Closes ≡ Waits → ⊥
@@ -44,7 +45,7 @@ rewinding e = cc e
 upgrading : Upgrades ≡ Waits → ⊥
 upgrading e = cc e
 
-told_ends : (h : Hindrance) (kept : Kept) (t : Turn) → Ends t → Ends (told_under h kept t)
+told_ends : (h : Hindrance) (kept : Kept) (t : ConsoleTurn) → Ends t → Ends (told_under h kept t)
 told_ends Clear kept t ends = ends
 told_ends Refused kept t ends = closing
 told_ends Unheard kept t ends = closing
@@ -58,7 +59,7 @@ told_ends UnreadRefused kept t ends = ends
 told_ends UnreadUnheard kept t ends = ends
 told_ends (Misread said left) kept t ends = ends
 
-read_ends : (h : Hindrance) (kept : Kept) (t : Turn) → Ends t → Ends (read_under h kept t)
+read_ends : (h : Hindrance) (kept : Kept) (t : ConsoleTurn) → Ends t → Ends (read_under h kept t)
 read_ends Clear kept t ends = ends
 read_ends Refused kept t ends = closing
 read_ends Unheard kept t ends = closing
@@ -72,7 +73,7 @@ read_ends UnreadRefused kept t ends = closing
 read_ends UnreadUnheard kept t ends = closing
 read_ends (Misread said left) kept t ends = ends
 
-sealed_ends : (h : Hindrance) (kept : Kept) (t u : Turn) → Ends t → Ends u → Ends (sealed_under h kept t u)
+sealed_ends : (h : Hindrance) (kept : Kept) (t u : ConsoleTurn) → Ends t → Ends u → Ends (sealed_under h kept t u)
 sealed_ends Clear kept t u done_ends failed_ends = done_ends
 sealed_ends Refused kept t u done_ends failed_ends = closing
 sealed_ends Unheard kept t u done_ends failed_ends = closing
@@ -86,7 +87,7 @@ sealed_ends UnreadRefused kept t u done_ends failed_ends = done_ends
 sealed_ends UnreadUnheard kept t u done_ends failed_ends = done_ends
 sealed_ends (Misread said left) kept t u done_ends failed_ends = done_ends
 
-rewound_ends : (h : Hindrance) (kept : Kept) (t u : Turn) → Ends t → Ends u → Ends (rewound_under h kept t u)
+rewound_ends : (h : Hindrance) (kept : Kept) (t u : ConsoleTurn) → Ends t → Ends u → Ends (rewound_under h kept t u)
 rewound_ends Clear kept t u done_ends failed_ends = done_ends
 rewound_ends Refused kept t u done_ends failed_ends = closing
 rewound_ends Unheard kept t u done_ends failed_ends = closing
@@ -100,7 +101,7 @@ rewound_ends UnreadRefused kept t u done_ends failed_ends = closing
 rewound_ends UnreadUnheard kept t u done_ends failed_ends = closing
 rewound_ends (Misread said left) kept t u done_ends failed_ends = done_ends
 
-found_ends : {A : Type 0} (some : Bool) (h : Hindrance) (kept : Kept) (o : Option A) (t : Turn) → Ends t → Ends (found_under some h kept o t)
+found_ends : {A : Type 0} (some : Bool) (h : Hindrance) (kept : Kept) (o : Option A) (t : ConsoleTurn) → Ends t → Ends (found_under some h kept o t)
 found_ends some h kept None t ends = told_ends h kept t ends
 found_ends some h kept (Some x) t ends = read_ends (where_read some h) kept t ends
 
@@ -134,9 +135,9 @@ route_ends : (h : Hindrance) (at : ℕ) (kept : Kept) (r : Route) → Ends (rout
 route_ends h at kept route.Status = told_ends h kept _ closing
 route_ends h at kept (route.Timeline start) = told_ends h kept _ closing
 route_ends h at kept (route.Box user name) = told_ends h kept _ closing
-route_ends h at kept (route.Body number) = found_ends (is_text_recorded kept.timeline number) h kept (body_found kept.timeline number) _ closing
+route_ends h at kept (route.Body number) = found_ends (is_text_recorded kept number) h kept (body_found kept.timeline number) _ closing
 route_ends h at kept route.Conf = told_ends h kept _ closing
-route_ends h at kept (route.Plan point) = found_ends true h kept (position kept.timeline point) _ closing
+route_ends h at kept (route.Plan point) = found_ends (plan_reads kept point) h kept (position kept.timeline point) _ closing
 route_ends h at kept (route.Act act) = act_ends h at kept act
 route_ends h at kept (route.Cycle ask) = back_ends h kept (pointless ask.point) (Cycle kept.next at ask) (after_cycle kept ask) (cycle_due kept at ask)
 route_ends h at kept (route.Try ask) = try_ends h kept ask (due_anew kept at ask)

@@ -17,7 +17,7 @@ use Rattle.desk_journal.specs.Stored.{is_recorded}
 use Rattle.time_desk.specs.Planning.{plan_of}
 use Rattle.console_http.specs.declared.request.HttpRefused.{HttpRefused}
 use Rattle.console_http.specs.declared.request.HttpRefused.TheVariants as why
-use Rattle.console_replies.specs.declared.bodies.Counts.{Counts}
+use Rattle.console_replies.specs.declared.bodies.StatusCounts.{StatusCounts}
 use Rattle.console_replies.specs.declared.bodies.ErrorWord.TheVariants as word
 use Rattle.console_replies.specs.Bodies.{status_data, body_data, error_data, point_data, uncycled_data}
 use Rattle.console_replies.specs.Confs.{conf_data}
@@ -66,7 +66,7 @@ found None = not_found
 found (Some body) = answer 200 body
 
 -- the desk's counts
-abbrev pub counted_as : DeskCounts → Counts
+abbrev pub counted_as : DeskCounts → StatusCounts
 counted_as c = record { cycles = c.cycles; items = c.items; messages = c.messages; next = c.next; notices = c.notices; users = c.users }
 
 abbrev pub status_answer : Kept → Answer
@@ -97,8 +97,8 @@ abbrev pub body_found : List Item → ℕ → Option Data
 body_found timeline number = option_and_then body_told (item_of timeline number)
 
 -- whether a record has that text, which is read there then; a notice's is in memory
-abbrev pub is_text_recorded : List Item → ℕ → Bool
-is_text_recorded timeline number = option_map_or (λ (rev : ℕ). is_recorded timeline (body_at number rev)) (rev_of timeline number) false
+abbrev pub is_text_recorded : Kept → ℕ → Bool
+is_text_recorded kept number = option_map_or (λ (rev : ℕ). is_recorded kept kept.timeline (body_at number rev)) (rev_of kept.timeline number) false
 
 abbrev pub body_answer : Kept → ℕ → Answer
 body_answer kept number = found (body_found kept.timeline number)

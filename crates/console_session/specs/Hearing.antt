@@ -27,7 +27,7 @@ use Rattle.console_session.specs.declared.reply.After.{After}
 use Rattle.console_session.specs.declared.reply.After.TheVariants.{Waits, Closes, Stops, Fails, Rewinds, Upgrades}
 use Rattle.console_session.specs.declared.reply.Reply.{Reply}
 use Rattle.console_session.specs.Answers.{Answer, answer, answer_text, pointless, refused, uncycled}
-use Rattle.console_session.specs.Turn.{Turn, asked_of, turn}
+use Rattle.console_session.specs.ConsoleTurn.{ConsoleTurn, asked_of, turn}
 use Rattle.console_session.specs.Hindrance.{Hindrance, hindered}
 
 -- what is known of bytes stays known whatever follows them
@@ -106,11 +106,11 @@ is_failure Rewinds = false
 is_failure Upgrades = false
 
 module _ {D : Type 0} (told : D → DiskTold) where
-  -- What is told of texts that were read, each of them: the answer that is due where the disk holds them. Or, where some may be to be read, a read failed, and
-  -- that is told. Or want of memory.
+  -- What is told of texts, each of them: the answer that is due where the disk holds them, or where none is to be read. Or, where some may be to be read, a
+  -- read failed, and that is told. Or want of memory.
   abbrev pub TellsRead : Bool → Answer → Lasting D → Lasting D → Reply → Type 0
   TellsRead some due old new r =
-      ((a : Answer) × (HoldsTexts told old → a ≡ due) × ReadsWell told old new × Tells a Closes r)
+      ((a : Answer) × (HoldsTexts told old ⊎ (some ≡ false) → a ≡ due) × ReadsWell told old new × Tells a Closes r)
       ⊎ ((some ≡ true) × ReadFailed (told old.disk) (told new.disk) × TellsUnread r)
 
   -- the same where there is what texts are read for; else the answer is told, and no read fails
@@ -119,7 +119,7 @@ module _ {D : Type 0} (told : D → DiskTold) where
   TellsFound some (Some x) due old new r = TellsRead some due old new r
 
   -- a turn was said and sealed, its texts were read, and just so many of its writes found no memory
-  pub record IsTurn (t : Turn) (old new : Lasting D) (r : Reply) : Type 0 where
+  pub record IsTurn (t : ConsoleTurn) (old new : Lasting D) (r : Reply) : Type 0 where
     pub reply_is : r ≡ reply t.said t.after
     pub kept : new.kept ≡ t.kept
     pub seals : Seals told t.sealed t.unsealed old new
@@ -127,7 +127,7 @@ module _ {D : Type 0} (told : D → DiskTold) where
     pub starved : Counted t.starved (told old.disk).starved (told new.disk).starved
 
   -- a turn, hindered or not; where nothing is to be sealed the desk is as it was, and the disk was only read
-  pub record Serves (at : ℕ) (asked : Result Asked HttpRefused) (old new : Lasting D) (r : Reply) : Type 0 where
+  pub record AnswersRequest (at : ℕ) (asked : Result Asked HttpRefused) (old new : Lasting D) (r : Reply) : Type 0 where
     pub hindrance : Hindrance
     pub turn_is : IsTurn (hindered hindrance at old.kept asked) old new r
     pub still : (turn at old.kept asked).sealed ≡ [] → IsStill told old new
@@ -135,4 +135,4 @@ module _ {D : Type 0} (told : D → DiskTold) where
   -- no memory was found for the bytes that came; or they and those before are served as what they are
   pub data Hears (at : ℕ) (unserved bytes : List ℕ) (old new : Lasting D) (r : Reply) : Type 0 where
     IsUnfed : r ≡ reply [] Closes → new ≡ old → Hears at unserved bytes old new r
-    AreServed : (stage : Stage) → Says (unserved ++ bytes) stage → Serves at (asked_of old.kept.house stage) old new r → Hears at unserved bytes old new r
+    AreServed : (stage : Stage) → Says (unserved ++ bytes) stage → AnswersRequest at (asked_of old.kept.house stage) old new r → Hears at unserved bytes old new r

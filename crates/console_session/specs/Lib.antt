@@ -1,4 +1,4 @@
 pub mod Answers
-pub mod Turn
+pub mod ConsoleTurn
 pub mod Hindrance
 pub mod Hearing

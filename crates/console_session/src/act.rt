@@ -6,7 +6,7 @@ ghost use Rattle.verb_core.specs.Items.{users_in};
 ghost use Rattle.verb_core.specs.Store.{is_known};
 ghost use Rattle.console_http.specs.declared.request.Asked.TheVariants.{Whole};
 ghost use Rattle.console_http.specs.declared.request.Route.TheVariants as route;
-ghost use Rattle.console_session.specs.Hearing.{Serves, TellsFault};
+ghost use Rattle.console_session.specs.Hearing.{AnswersRequest, TellsFault};
 
 use crate::reply::{After, Reply, starve, tell, tell_only, tell_unsealed};
 use console_replies::{number_json, numbers_json};
@@ -33,7 +33,7 @@ fn tell_fault(alloc: Global, fault: ActFault) -> Reply
 pub fn act<D: Disk>(alloc: Global, desk: &mut Desk<D>, at: u64, asked: Act) -> Reply
     requires open { desk.old.closed ≡ false }
     requires known { IsTrue (list_all (is_known desk.old.kept.house) (users_in (Acts asked))) }
-    ensures { Serves D.told at (Ok (Whole (route.Act asked))) desk.old desk.new result }
+    ensures { AnswersRequest D.told at (Ok (Whole (route.Act asked))) desk.old desk.new result }
 {
     seals_join::<D>();
     match desk.act(alloc, at, asked) {

@@ -9,7 +9,7 @@ ghost use Rattle.console_replies.specs.Reports.{report_data};
 ghost use Rattle.console_http.specs.declared.request.Asked.TheVariants.{Whole};
 ghost use Rattle.console_http.specs.declared.request.Route.TheVariants as route;
 ghost use Rattle.console_session.specs.Answers.{answer};
-ghost use Rattle.console_session.specs.Hearing.{Serves, Tells, TellsCycleFault, TellsDiskFault};
+ghost use Rattle.console_session.specs.Hearing.{AnswersRequest, Tells, TellsCycleFault, TellsDiskFault};
 ghost use Rattle.console_session.specs.declared.reply.After.TheVariants as after;
 
 use crate::reply::{After, Reply, starve, tell, tell_only, tell_unread, tell_unsealed};
@@ -122,7 +122,7 @@ fn rewind<D: Disk, R: Threads + Sync, G: Gate>(
     requires moment { at ≤ LAST_MOMENT }
     requires known { IsTrue (are_known desk.old.kept.house ask.inserts) }
     requires fresh { report_of desk.old.kept.reports ask.key ≡ None }
-    ensures { Serves D.told at (Ok (Whole (route.Cycle ask))) desk.old desk.new result }
+    ensures { AnswersRequest D.told at (Ok (Whole (route.Cycle ask))) desk.old desk.new result }
 {
     seals_join::<D>();
     match rewind_desk(rt, alloc, desk, at, ask, gate) {
@@ -148,7 +148,7 @@ pub fn cycle<D: Disk, R: Threads + Sync, G: Gate>(
     requires open { desk.old.closed ≡ false }
     requires moment { at ≤ LAST_MOMENT }
     requires known { IsTrue (are_known desk.old.kept.house ask.inserts) }
-    ensures { Serves D.told at (Ok (Whole (route.Cycle ask))) desk.old desk.new result }
+    ensures { AnswersRequest D.told at (Ok (Whole (route.Cycle ask))) desk.old desk.new result }
 {
     seals_join::<D>();
     match desk.report(&ask.key) {
@@ -168,7 +168,7 @@ pub fn try_cycle<D: Disk, R: Threads + Sync, G: Gate>(
 ) -> Reply
     requires moment { at ≤ LAST_MOMENT }
     requires known { IsTrue (are_known desk.old.kept.house ask.now.inserts) }
-    ensures { Serves D.told at (Ok (Whole (route.Try ask.now))) desk.old desk.new result }
+    ensures { AnswersRequest D.told at (Ok (Whole (route.Try ask.now))) desk.old desk.new result }
 {
     seals_join::<D>();
     match desk.try_cycle(rt, alloc, at, ask, gate) {

@@ -23,9 +23,9 @@ pub enum After {
     Stops,
     /// The connection is closed. A record could not be sealed, and serving ends with that. A text that could not be read ends nothing more than the connection.
     Fails,
-    /// The connection is closed. A cycle or a withdrawal was done: each mail reader's connection is told that the store was rewound, and closed.
+    /// The connection is closed. A cycle or a withdrawal was done: each IMAP client's connection is told that the store was rewound, and closed.
     Rewinds,
-    /// The connection is closed. The store was upgraded: each mail reader's connection is told that, and closed.
+    /// The connection is closed. The store was upgraded: each IMAP client's connection is told that, and closed.
     Upgrades,
 }
 

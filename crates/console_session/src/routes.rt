@@ -1,5 +1,5 @@
 //! The routes that look at the desk, and the refusals of requests.
-ghost use Rattle.std.specs.Prelude.{◌≡◌, List, [], ℕ, IfOk, IsSome, IsTrue, Some, true, unwrap_or};
+ghost use Rattle.std.specs.Prelude.{◌≡◌, List, [], ℕ, IfOk, IsSome, IsTrue, Some, unwrap_or};
 ghost use Rattle.serde_json.specs.Written.{compact_text};
 ghost use Rattle.console_replies.specs.Bodies.{body_data, error_data};
 ghost use Rattle.console_replies.specs.Reply.{is_status};
@@ -7,6 +7,7 @@ ghost use Rattle.console_replies.specs.Timeline.{timeline_data};
 ghost use Rattle.verb_core.specs.Boxes.{box_of, row_at};
 ghost use Rattle.mail_desk.specs.Counting.{page};
 ghost use Rattle.repair_desk.specs.Repairs.{position};
+ghost use Rattle.time_desk.specs.Replaying.{plan_reads};
 ghost use Rattle.desk_journal.specs.Reading.{IsStill};
 ghost use Rattle.desk_journal.specs.Stored.{is_recorded};
 ghost use Rattle.console_session.specs.Answers.{answer, body_answer, body_at, body_found, box_answer, conf_answer, counted_as, is_text_recorded, not_found, plan_answer, refused, status_answer, timeline_answer};
@@ -18,7 +19,7 @@ use crate::cycle::tell_fault;
 use crate::reply::{After, Reply, starve, tell, tell_plainly, tell_unread};
 use console_http::HttpRefused;
 use console_replies::{
-    Counts, ErrorWord, body_json, box_json, conf_json, error_json, status_json, timeline_json,
+    ErrorWord, StatusCounts, body_json, box_json, conf_json, error_json, status_json, timeline_json,
 };
 use seal_log::ReadFault;
 use std::alloc::Global;
@@ -28,10 +29,10 @@ use undo_outside::Disk;
 use verb_core::Body;
 
 /// The counts in the console's words.
-fn counted(counts: mail_desk::Counts) -> Counts
+fn counted(counts: mail_desk::Counts) -> StatusCounts
     ensures { result ≡ counted_as counts }
 {
-    Counts {
+    StatusCounts {
         cycles: counts.cycles,
         items: counts.items,
         messages: counts.messages,
@@ -122,7 +123,7 @@ fn tell_unfound(alloc: Global, fault: ReadFault) -> Reply
 /// The text of a body.
 fn tell_text<D: Disk>(alloc: Global, desk: &mut Desk<D>, body: Body) -> Reply
     requires { IsTrue (has_text_kept desk.old.kept body) }
-    ensures told { (text : List ℕ) → text_kept desk.old.kept body ≡ Some text → TellsRead D.told (is_recorded desk.old.kept.timeline body) (answer 200 (body_data text body.rev)) desk.old desk.new result }
+    ensures told { (text : List ℕ) → text_kept desk.old.kept body ≡ Some text → TellsRead D.told (is_recorded desk.old.kept desk.old.kept.timeline body) (answer 200 (body_data text body.rev)) desk.old desk.new result }
     ensures still { IsStill D.told desk.old desk.new }
 {
     match desk.body(alloc, body) {
@@ -143,7 +144,7 @@ fn body_of(number: u32, rev: u32) -> Body
 
 /// GET /body. The text is read where a record has it; the desk stays as it was.
 pub fn tell_body<D: Disk>(alloc: Global, desk: &mut Desk<D>, number: u32) -> Reply
-    ensures told { TellsFound D.told (is_text_recorded desk.old.kept.timeline number) (body_found desk.old.kept.timeline number) (body_answer desk.old.kept number) desk.old desk.new result }
+    ensures told { TellsFound D.told (is_text_recorded desk.old.kept number) (body_found desk.old.kept.timeline number) (body_answer desk.old.kept number) desk.old desk.new result }
     ensures still { IsStill D.told desk.old desk.new }
 {
     match desk.rev(number) {
@@ -162,7 +163,7 @@ pub fn tell_conf<D: Disk>(alloc: Global, desk: &Desk<D>) -> Reply
 
 /// GET /plan. Texts are read; the desk stays as it was.
 pub fn tell_plan<D: Disk>(alloc: Global, desk: &mut Desk<D>, point: u32) -> Reply
-    ensures told { TellsFound D.told true (position desk.old.kept.timeline point) (plan_answer desk.old.kept point) desk.old desk.new result }
+    ensures told { TellsFound D.told (plan_reads desk.old.kept point) (position desk.old.kept.timeline point) (plan_answer desk.old.kept point) desk.old desk.new result }
     ensures still { IsStill D.told desk.old desk.new }
 {
     match desk.plan_text(alloc, point) {

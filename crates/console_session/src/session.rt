@@ -2,7 +2,7 @@
 ghost use Rattle.std.specs.Prelude.{◌≡◌, ◌<◌, ◌≤◌, ◌++◌, [], false, length, Ok};
 ghost use Rattle.console_http.specs.Requests.{AskKnows, KnowsUsers};
 ghost use Rattle.console_http.specs.declared.request.Asked.TheVariants.{Whole};
-ghost use Rattle.console_session.specs.Hearing.{Hears, Serves, is_failure};
+ghost use Rattle.console_session.specs.Hearing.{Hears, AnswersRequest, is_failure};
 ghost use Rattle.console_session.specs.declared.reply.After.TheVariants.{Waits};
 
 use crate::act::act;
@@ -57,7 +57,7 @@ fn follow<D: Disk, R: Threads + Sync, G: Gate>(
     requires open { desk.old.closed ≡ false }
     requires moment { at ≤ LAST_MOMENT }
     requires known { KnowsUsers desk.old.kept.house route }
-    ensures { Serves D.told at (Ok (Whole route)) desk.old desk.new result }
+    ensures { AnswersRequest D.told at (Ok (Whole route)) desk.old desk.new result }
 {
     seals_join::<D>();
     match route {
@@ -89,7 +89,7 @@ fn serve<D: Disk, R: Threads + Sync, G: Gate>(
     requires open { desk.old.closed ≡ false }
     requires moment { at ≤ LAST_MOMENT }
     requires known { AskKnows desk.old.kept.house asked }
-    ensures { Serves D.told at asked desk.old desk.new result }
+    ensures { AnswersRequest D.told at asked desk.old desk.new result }
 {
     seals_join::<D>();
     match asked {

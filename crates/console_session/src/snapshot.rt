@@ -2,7 +2,7 @@
 ghost use Rattle.std.specs.Prelude.{◌≡◌, ℕ, Ok, false};
 ghost use Rattle.console_http.specs.declared.request.Asked.TheVariants.{Whole};
 ghost use Rattle.console_http.specs.declared.request.Route.TheVariants as route;
-ghost use Rattle.console_session.specs.Hearing.{Serves, TellsSealFault};
+ghost use Rattle.console_session.specs.Hearing.{AnswersRequest, TellsSealFault};
 
 use crate::reply::{After, Reply, starve, tell_only, tell_unsealed};
 use console_replies::items_json;
@@ -26,7 +26,7 @@ pub(crate) fn tell_fault(alloc: Global, fault: SealFault) -> Reply
 /// POST /snapshot.
 pub fn snapshot<D: Disk>(alloc: Global, desk: &mut Desk<D>) -> Reply
     requires { desk.old.closed ≡ false }
-    ensures { (at : ℕ) → Serves D.told at (Ok (Whole route.Snapshot)) desk.old desk.new result }
+    ensures { (at : ℕ) → AnswersRequest D.told at (Ok (Whole route.Snapshot)) desk.old desk.new result }
 {
     match desk.snapshot(alloc) {
         Ok(items) => tell_only(alloc, 200, items_json(alloc, items), After::Closes),

@@ -2,7 +2,7 @@
 ghost use Rattle.std.specs.Prelude.{◌≡◌, Ok, false};
 ghost use Rattle.console_http.specs.declared.request.Asked.TheVariants.{Whole};
 ghost use Rattle.console_http.specs.declared.request.Route.TheVariants as route;
-ghost use Rattle.console_session.specs.Hearing.{Serves};
+ghost use Rattle.console_session.specs.Hearing.{AnswersRequest};
 
 use crate::reply::{After, Reply, tell, tell_only};
 use crate::snapshot::tell_fault;
@@ -15,7 +15,7 @@ use undo_outside::Disk;
 /// POST /upgrade. A store that was upgraded before is told to be so, and nothing is sealed.
 pub fn upgrade<D: Disk>(alloc: Global, desk: &mut Desk<D>, at: u64) -> Reply
     requires { desk.old.closed ≡ false }
-    ensures { Serves D.told at (Ok (Whole route.Upgrade)) desk.old desk.new result }
+    ensures { AnswersRequest D.told at (Ok (Whole route.Upgrade)) desk.old desk.new result }
 {
     seals_join::<D>();
     if desk.upgraded() {

@@ -6,7 +6,7 @@ ghost use Rattle.time_desk.specs.Withdrawing.{WithdrawalWants, Withdraws, Withdr
 ghost use Rattle.desk_journal.specs.Reading.{ReadsWell};
 ghost use Rattle.console_http.specs.declared.request.Asked.TheVariants.{Whole};
 ghost use Rattle.console_http.specs.declared.request.Route.TheVariants as route;
-ghost use Rattle.console_session.specs.Hearing.{Serves, TellsWithdrawFault};
+ghost use Rattle.console_session.specs.Hearing.{AnswersRequest, TellsWithdrawFault};
 
 use crate::cycle::{tell_disk_fault, tell_report};
 use crate::reply::{After, Reply, starve, tell, tell_only};
@@ -98,7 +98,7 @@ fn withdraw_anew<D: Disk, R: Threads + Sync, G: Gate>(
     requires open { desk.old.closed ≡ false }
     requires moment { at ≤ LAST_MOMENT }
     requires fresh { report_of desk.old.kept.reports key.now ≡ None }
-    ensures { Serves D.told at (Ok (Whole (route.Withdraw key.now of))) desk.old desk.new result }
+    ensures { AnswersRequest D.told at (Ok (Whole (route.Withdraw key.now of))) desk.old desk.new result }
 {
     seals_join::<D>();
     match withdraw_desk(rt, alloc, desk, at, key, of, gate) {
@@ -124,7 +124,7 @@ pub fn withdraw<D: Disk, R: Threads + Sync, G: Gate>(
 ) -> Reply
     requires open { desk.old.closed ≡ false }
     requires moment { at ≤ LAST_MOMENT }
-    ensures { Serves D.told at (Ok (Whole (route.Withdraw key.now of))) desk.old desk.new result }
+    ensures { AnswersRequest D.told at (Ok (Whole (route.Withdraw key.now of))) desk.old desk.new result }
 {
     seals_join::<D>();
     match desk.report(key) {

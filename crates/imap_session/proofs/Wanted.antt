@@ -14,11 +14,11 @@ use Rattle.imap_fetch.specs.declared.messages.Message.{Message}
 use Rattle.imap_fetch.specs.Asked.{body_sections}
 use Rattle.imap_session.specs.declared.dialog.Fetching.{Fetching}
 use Rattle.imap_session.specs.declared.dialog.Searching.{Searching}
-use Rattle.imap_session.specs.Searching.{is_of_texts, is_vast, search_bodies}
+use Rattle.imap_session.specs.Searching.{is_of_texts, is_too_large, search_bodies}
 use Rattle.search_verb.specs.Meets.{needed}
 use Rattle.imap_view.specs.declared.messages.Known.{Known}
 use Rattle.imap_session.specs.Dialog.{holds_all}
-use Rattle.imap_session.specs.Fetching.{bodies_of, is_vain}
+use Rattle.imap_session.specs.Fetching.{bodies_of, is_refused_unread}
 use Rattle.imap_view.specs.Named.{rows_at}
 use Rattle.imap_view.specs.Views.{entry_of, is_message}
 
@@ -67,12 +67,12 @@ bodies_if test false bodies h = h
 pub bodies_are : (test : Body → Bool) (sizes : Body → Option ℕ) (id : BoxId) (rs : List (BoxId × Mailbox)) (f : Fetching) (view : List Known) (places : List ℕ)
     → f.rows ≡ rows_at sizes (mail_at id rs) view places → holds_all test rs ≡ true → list_all test (bodies_of f) ≡ true
 bodies_are test sizes id rs f view places is h =
-    bodies_if test ((body_sections f.form.attributes == 0) || is_vain f) (map (λ (m : Message). m.entry.body) f.rows)
+    bodies_if test ((body_sections f.form.attributes == 0) || is_refused_unread f) (map (λ (m : Message). m.entry.body) f.rows)
     (rw is (rows_are test sizes (mail_at id rs) view places (mail_is test id rs h)))
 
 -- so are those that a SEARCH needs
 pub searched_are : (test : Body → Bool) (sizes : Body → Option ℕ) (id : BoxId) (rs : List (BoxId × Mailbox)) (q : Searching) (view : List Known) (places : List ℕ)
     → q.rows ≡ rows_at sizes (mail_at id rs) view places → holds_all test rs ≡ true → list_all test (search_bodies q) ≡ true
 searched_are test sizes id rs q view places is h =
-    bodies_if test (not (is_of_texts (needed q.key)) || is_vast q) (map (λ (m : Message). m.entry.body) q.rows)
+    bodies_if test (not (is_of_texts (needed q.key)) || is_too_large q) (map (λ (m : Message). m.entry.body) q.rows)
     (rw is (rows_are test sizes (mail_at id rs) view places (mail_is test id rs h)))

@@ -1,5 +1,5 @@
--- The dialog with a mail client (RFC 3501, 3 and 6), as a function of its state, the house, the store, the lengths of
--- texts, whether names may have superiors, and one command. It gives what is said, read or asked of the store, and the state after it.
+-- The dialog with an IMAP client (RFC 3501, 3 and 6). It is a function of its state, the house, the store, the lengths of texts,
+-- whether names may have superiors, and one command. It gives what is said, read or asked of the store, and the state after it.
 use Rattle.std.specs.Prelude.{◌≡◌, ℕ, Bool, true, false, not, ◌&&◌, ◌||◌, List, [], ◌∷◌, ◌++◌, length, bytes_eq, is_some, option_map, unwrap_or, Option, None, Some, Result, Ok, Err, if◌then◌else◌}
 use Rattle.std.specs.List.{list_all}
 use Rattle.undo_base.specs.declared.asks.StatusAsk.{StatusAsk}
@@ -316,8 +316,8 @@ obey house s sizes deep tag d (what.Copy set target by_uid) = copy s tag d d.sel
 obey house s sizes deep tag d (what.Search charset key by_uid) = search s sizes tag d d.selected charset key by_uid
 obey house s sizes deep tag d what.Authenticate = says tag NotOffered d
 
--- what a command leaves that found no memory: a SELECT or EXAMINE leaves no mailbox selected, as one that is refused does, so that a
--- command behind it is not taken to be of the mailbox before (RFC 3501, 6.3.1); any other leaves all as it was
+-- What a command leaves that found no memory. A SELECT or EXAMINE leaves no mailbox selected, as one that is refused does: so no
+-- command behind it is taken to be of the mailbox before (RFC 3501, 6.3.1). Any other leaves all as it was.
 abbrev pub without_memory : ImapWhat → Dialog → Dialog
 without_memory what.Capability d = d
 without_memory what.Noop d = d

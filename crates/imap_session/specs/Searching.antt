@@ -49,8 +49,8 @@ abbrev pub octets_of : Searching → ℕ
 octets_of q = if is_of_texts (needed q.key) then total_size q.rows else 0
 
 -- the store is to refuse it, since it looks at too much
-abbrev pub is_vast : Searching → Bool
-is_vast q = nat_lt 268435456 (octets_of q)
+abbrev pub is_too_large : Searching → Bool
+is_too_large q = nat_lt 268435456 (octets_of q)
 
 -- what is known of a message of the view
 abbrev pub facts_of : Searching → Message → List ℕ → Facts
@@ -84,7 +84,7 @@ found_from q texts place (m ∷ rows) = kept q texts place m ++ found_from q tex
 
 -- the messages that match, in order; none where the store is to refuse it
 abbrev pub found : Searching → List (List ℕ) → List Message
-found q texts = if is_vast q then [] else found_from q texts 0 q.rows
+found q texts = if is_too_large q then [] else found_from q texts 0 q.rows
 
 abbrev pub keys_of : List Message → List Key
 keys_of rows = map (λ (m : Message). m.entry.key) rows
@@ -102,7 +102,7 @@ search_ask q texts = ask.Fetch q.mailbox (keys_of (found q texts)) false (is_of_
 
 -- the bodies whose texts it needs: those of all messages of the view that are there
 abbrev pub search_bodies : Searching → List Body
-search_bodies q = if not (is_of_texts (needed q.key)) || is_vast q then [] else map (λ (m : Message). m.entry.body) q.rows
+search_bodies q = if not (is_of_texts (needed q.key)) || is_too_large q then [] else map (λ (m : Message). m.entry.body) q.rows
 
 -- the answer (RFC 3501, 7.2.5)
 abbrev pub search_line : List ℕ → List ℕ

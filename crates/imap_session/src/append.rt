@@ -43,7 +43,6 @@ fn submit_append(
     Ok(submit(dialog, tag, asked, pending))
 }
 
-/// APPEND.
 pub(crate) fn append(
     alloc: Global,
     deep: bool,
@@ -66,7 +65,6 @@ pub(crate) fn append(
     }
 }
 
-/// CHECK.
 pub(crate) fn check(
     alloc: Global,
     store: &Store,

@@ -27,7 +27,6 @@ fn create_named(
     Ok(submit(dialog, tag, Ask::Create { mailbox }, pending))
 }
 
-/// CREATE.
 pub(crate) fn create(
     alloc: Global,
     deep: bool,
@@ -61,7 +60,6 @@ fn delete_named(
     Ok(submit(dialog, tag, Ask::Delete { mailbox }, pending))
 }
 
-/// DELETE.
 pub(crate) fn delete(
     alloc: Global,
     deep: bool,
@@ -127,7 +125,6 @@ fn rename_to(
     }
 }
 
-/// RENAME.
 pub(crate) fn rename(
     alloc: Global,
     deep: bool,

@@ -94,7 +94,6 @@ pub(crate) fn submit(dialog: &mut Dialog, tag: Name, asked: Ask, pending: Pendin
     ImapOut::Submit(asked)
 }
 
-/// CAPABILITY.
 pub(crate) fn capability(alloc: Global, tag: &Name) -> Result<ImapOut, NoMemory>
     ensures { IfOk result (λ out. out ≡ ImapOut.Say (words.capability_text ++ words.tagged tag.now (Answer.Done Word.Capability))) }
 {
@@ -102,7 +101,6 @@ pub(crate) fn capability(alloc: Global, tag: &Name) -> Result<ImapOut, NoMemory>
     tell(text, tag, Answer::Done(Word::Capability))
 }
 
-/// LOGOUT.
 pub(crate) fn logout(alloc: Global, tag: &Name) -> Result<ImapOut, NoMemory>
     ensures { IfOk result (λ out. out ≡ ImapOut.Bye (words.bye_text ++ words.tagged tag.now (Answer.Done Word.Logout))) }
 {
@@ -111,7 +109,6 @@ pub(crate) fn logout(alloc: Global, tag: &Name) -> Result<ImapOut, NoMemory>
     Ok(ImapOut::Bye(text))
 }
 
-/// LOGIN.
 pub(crate) fn login(
     alloc: Global,
     house: &House,
@@ -225,7 +222,6 @@ fn submit_expunge(dialog: &mut Dialog, tag: Name, mailbox: Name) -> ImapOut
     })
 }
 
-/// EXPUNGE.
 pub(crate) fn expunge(alloc: Global, dialog: &mut Dialog, tag: &Name) -> Result<ImapOut, NoMemory>
     ensures ok { IfOk result (λ out. spec.expunge tag.now dialog.old dialog.old.selected ≡ took out dialog.new) }
     ensures err { OnErr result (dialog.new ≡ dialog.old) }

@@ -61,8 +61,8 @@ fn fetching_of(
 }
 
 /// Whether the store is to refuse it.
-fn is_vain(fetching: &Fetching) -> bool
-    ensures { result ≡ fetching_spec.is_vain fetching.now }
+fn is_refused_unread(fetching: &Fetching) -> bool
+    ensures { result ≡ fetching_spec.is_refused_unread fetching.now }
 {
     let keys = fetching.keys.len();
     (!fetching.form.by_uid && fetching.rows.len() < keys)
@@ -80,7 +80,7 @@ fn all_bodies(alloc: Global, rows: &[Message]) -> Result<Vec<Body>, AllocError>
 fn bodies_of(alloc: Global, fetching: &Fetching) -> Result<Bodies0, NoMemory>
     ensures { IfOk result (λ bodies. bodies ≡ fetching_spec.bodies_of fetching.now) }
 {
-    if body_sections(&fetching.form.attributes) == 0 || is_vain(fetching) {
+    if body_sections(&fetching.form.attributes) == 0 || is_refused_unread(fetching) {
         return Ok(Bodies0::new(alloc));
     }
     let bodies = all_bodies(alloc, fetching.rows.as_slice())?;

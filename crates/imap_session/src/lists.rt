@@ -146,7 +146,6 @@ fn submit_status(
     Ok(submit(dialog, tag, Ask::Status { mailbox }, pending))
 }
 
-/// STATUS.
 pub(crate) fn status(
     alloc: Global,
     deep: bool,

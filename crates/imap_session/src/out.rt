@@ -2,11 +2,11 @@
 use undo_base::{Sequence, Text};
 use verb_core::{Ask, Body};
 
-/// Bodies, in order.
+/// Bodies, in order; the name is that of the interface.
 pub type Bodies0 = Sequence<Body>;
 
-/// What comes of a command: an answer, texts that are to be read, an ask of the store whose outcome is due then, or the
-/// last answer, after which the connection is closed.
+/// What comes of a command: an answer, texts that are to be read, an ask of the store whose outcome is due then, or the last
+/// answer. After that the connection is closed.
 #[derive(Debug, Drop)]
 pub enum ImapOut {
     Say(Text),

@@ -148,8 +148,8 @@ fn octets_of(searching: &Searching) -> u64
     }
 }
 
-fn is_vast(searching: &Searching) -> bool
-    ensures { result ≡ search_spec.is_vast searching.now }
+fn is_too_large(searching: &Searching) -> bool
+    ensures { result ≡ search_spec.is_too_large searching.now }
 {
     MOST_FETCHED < octets_of(searching)
 }
@@ -224,7 +224,7 @@ fn matching(alloc: Global, searching: &Searching, texts: &[Text]) -> Result<Mess
 fn found_of(alloc: Global, searching: &Searching, texts: &[Text]) -> Result<Messages, NoMemory>
     ensures { IfOk result (λ rows. rows ≡ search_spec.found searching.now texts.now) }
 {
-    if is_vast(searching) {
+    if is_too_large(searching) {
         Ok(Messages::new(alloc))
     } else {
         matching(alloc, searching, texts)
@@ -322,7 +322,7 @@ fn bodies_vec(alloc: Global, rows: &[Message]) -> Result<Vec<Body>, AllocError>
 fn bodies_of(alloc: Global, searching: &Searching) -> Result<Bodies0, NoMemory>
     ensures { IfOk result (λ bodies. bodies ≡ search_spec.search_bodies searching.now) }
 {
-    if !is_of_texts(searching.key.looks()) || is_vast(searching) {
+    if !is_of_texts(searching.key.looks()) || is_too_large(searching) {
         return Ok(Bodies0::new(alloc));
     }
     let bodies = bodies_vec(alloc, searching.rows.as_slice())?;

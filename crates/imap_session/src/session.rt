@@ -1,4 +1,4 @@
-//! The session of a mail client.
+//! The session of an IMAP client.
 ghost use Rattle.std.specs.Prelude.{◌≡◌, IsTrue, IfOk, OnOk, OnErr, true};
 ghost use Rattle.shelf.specs.Notes.{size_of};
 ghost use Rattle.verb_core.specs.Boxes.{is_rising};
@@ -20,7 +20,7 @@ use std::marker::Model;
 use undo_base::{Name, NoMemory, Texts, User};
 use verb_core::{House, Item, Stamps, SubmitFault};
 
-/// The session of a mail client from its greeting to its last answer.
+/// The session of an IMAP client from its greeting to its last answer.
 #[derive(Drop)]
 pub struct ImapSession {
     dialog: Dialog,

@@ -54,28 +54,24 @@ pub enum Answer {
     DiskFault,
 }
 
-/// The word of a FETCH.
 pub(crate) fn fetch_word(by_uid: bool) -> Word
     ensures { result ≡ spec.fetch_word by_uid }
 {
     if by_uid { Word::UidFetch } else { Word::Fetch }
 }
 
-/// The word of a STORE.
 pub(crate) fn store_word(by_uid: bool) -> Word
     ensures { result ≡ spec.store_word by_uid }
 {
     if by_uid { Word::UidStore } else { Word::Store }
 }
 
-/// The word of a COPY.
 pub(crate) fn copy_word(by_uid: bool) -> Word
     ensures { result ≡ spec.copy_word by_uid }
 {
     if by_uid { Word::UidCopy } else { Word::Copy }
 }
 
-/// The word of a SEARCH.
 pub(crate) fn search_word(by_uid: bool) -> Word
     ensures { result ≡ spec.search_word by_uid }
 {

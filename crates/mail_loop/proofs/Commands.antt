@@ -1,4 +1,4 @@
--- What a command gives of a mail reader's dialog: whose texts it wants, and what follows once it has them.
+-- What a command gives of an IMAP client's dialog: whose texts it wants, and what follows once it has them.
 use Rattle.std.proofs.Common.{◌≡◌, ◌&&◌, ◌↔◌, IsSome, IsTrue, ℕ, Bool, true, false, List, [], Option, None, Some, is_some, option_map, unwrap_or, Result, Ok, Err, refl, ap, subst, sym, ◌∙◌}
 use Rattle.std.specs.List.{list_all, cons_option}
 use Rattle.undo_base.specs.declared.keys.User.{User}
@@ -17,8 +17,7 @@ use Rattle.imap_session.specs.declared.out.ImapOut.TheVariants.{Say, Read, Submi
 use Rattle.imap_session.specs.Dialog as session
 use Rattle.imap_session.specs.Dialog.{ReadsOf, is_at_home, is_texts}
 use Rattle.store_kept.specs.Kept.{Kept, store_of}
-use Rattle.mail_desk.specs.Timeline.{has_text}
-use Rattle.store_kept.specs.Texts.{all_bodies}
+use Rattle.store_kept.specs.Texts.{all_bodies, has_text_kept}
 use Rattle.mail_loop.specs.Session.{Speech, is_answer, is_home, is_said}
 use Rattle.mail_loop.specs.ImapTurn.{answers_awaited, imap_speech, of_imap}
 use Rattle.mail_loop.specs.Took.{AreThere, AsksAs, GoesOn, IsNext, IsAwaitedLast, IsOnlySaid}
@@ -26,10 +25,10 @@ use Rattle.mail_loop.specs.Took.{AreThere, AsksAs, GoesOn, IsNext, IsAwaitedLast
 -- ---- what a command gives
 
 -- the texts that a command wants are those of the items in force
-pub there_of : (kept : Kept) (s : MailStore) (out : ImapOut) → s ≡ store_of kept → ReadsOf s out → all_bodies (has_text kept.timeline) (store_of kept).boxes ≡ true → AreThere kept (of_imap out)
+pub there_of : (kept : Kept) (s : MailStore) (out : ImapOut) → s ≡ store_of kept → ReadsOf s out → all_bodies (has_text_kept kept) (store_of kept).boxes ≡ true → AreThere kept (of_imap out)
 there_of kept s (Say said) same reads there = tt
 there_of kept s (Bye said) same reads there = tt
-there_of kept s (Read bodies) same reads there = reads (has_text kept.timeline) (ap (λ (t : MailStore). all_bodies (has_text kept.timeline) t.boxes) same ∙ there)
+there_of kept s (Read bodies) same reads there = reads (has_text_kept kept) (ap (λ (t : MailStore). all_bodies (has_text_kept kept) t.boxes) same ∙ there)
 there_of kept s (Submit ask) same reads there = tt
 
 pub next_of : (out : ImapOut) (d : Dialog) → session.IsNext out d → IsNext imap_speech (of_imap out) d

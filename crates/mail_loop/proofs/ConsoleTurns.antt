@@ -11,7 +11,7 @@ use Rattle.console_session.specs.declared.reply.After.TheVariants.{Waits, Closes
 use Rattle.console_session.specs.declared.reply.Reply.{Reply}
 use Rattle.console_session.specs.Hearing.{Hears, IsUnfed, AreServed}
 use Rattle.console_session.specs.Hindrance as console
-use Rattle.console_session.specs.Turn.{asked_of}
+use Rattle.console_session.specs.ConsoleTurn.{asked_of}
 use Rattle.mail_loop.specs.declared.aftermath.Aftermath.TheVariants.{Quiet}
 use Rattle.mail_loop.specs.State.{Seats, State, Http}
 use Rattle.mail_loop.specs.Asked.{HaveSealed}

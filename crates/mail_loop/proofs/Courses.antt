@@ -13,11 +13,12 @@ use Rattle.verb_core.specs.Names.{is_empty}
 use Rattle.store_kept.specs.Kept.{Kept}
 use Rattle.desk_journal.specs.Crashing.{LeavesFront}
 use Rattle.desk_journal.specs.Lasting.{Lasting}
-use Rattle.desk_journal.specs.Records.{after_record, after_records, first_state, payloads_of, state}
+use Rattle.desk_journal.specs.Records.{after_record, after_records, payloads_of, state}
 use Rattle.desk_journal.specs.Sealing.{ReadNoTexts, Seals}
 use Rattle.desk_journal.specs.Stored.{HoldsTexts}
 use Rattle.mail_loop.specs.Asked.{HaveSealed}
 use Rattle.desk_journal.specs.Reading.{Counted, HaveRead, Reads}
+use Rattle.desk_journal.proofs.Runs.{state_then}
 use Rattle.mail_loop.specs.Did.{Keeps, is_due_on}
 use Rattle.mail_loop.specs.Machine.{Answered, Hindrances, Keeping, answered, happens, ignored, is_end, unwritten_by}
 use Rattle.mail_loop.specs.State.{State}
@@ -28,25 +29,6 @@ use Rattle.mail_loop.proofs.Links.{counted_none}
 use Rattle.mail_loop.proofs.Sealed.{Nothing, Then, nothing_read, shut_on, unread_if, unsealed, unwritten_on, wanting_if}
 
 -- ---- what records leave
-
--- first these records, and then those
-after_append : (kept : Kept) (first more : List JournalRecord) → after_records kept (first ++ more) ≡ option_and_then (λ (k : Kept). after_records k more) (after_records kept first)
-after_append kept [] more = refl
-after_append kept (r ∷ rs) more = step (λ next. after_append next rs more) (after_record kept r)
-  where
-    step : ((next : Kept) → after_records next (rs ++ more) ≡ option_and_then (λ (k : Kept). after_records k more) (after_records next rs))
-        → (next : Option Kept) → option_and_then (λ (k : Kept). after_records k (rs ++ more)) next ≡ option_and_then (λ (k : Kept). after_records k more) (option_and_then (λ (k : Kept). after_records k rs) next)
-    step rest None = refl
-    step rest (Some next) = rest next
-
--- a journal's records, and more
-state_append : (records more : List JournalRecord) (kept : Kept) → state records ≡ Some kept → state (records ++ more) ≡ after_records kept more
-state_append [] more kept e = cc
-state_append (r ∷ rs) more kept e = step (first_state r) e
-  where
-    step : (first : Option Kept) → option_and_then (λ (k : Kept). after_records k rs) first ≡ Some kept → option_and_then (λ (k : Kept). after_records k (rs ++ more)) first ≡ after_records kept more
-    step None e = cc
-    step (Some first) e = after_append first rs more ∙ ap (option_and_then (λ (k : Kept). after_records k more)) e
 
 -- where records can stand, the first of them can
 after_front : (kept : Kept) (records : List JournalRecord) (count : ℕ) → IsSome (after_records kept records) → IsSome (after_records kept (take count records))
@@ -175,7 +157,7 @@ module _ {D : Type 0} (told : D → DiskTold) where
   closed_by failed added a b open' seals = seals.closed ∙ ap (λ (c : Bool). c || not (is_empty failed)) open'
 
   -- a desk that is open behind what it sealed
-  none_failed : (failed added : List JournalRecord) (a b : Lasting D) → b.closed ≡ false → Seals told added failed a b → failed ≡ []
+  pub none_failed : (failed added : List JournalRecord) (a b : Lasting D) → b.closed ≡ false → Seals told added failed a b → failed ≡ []
   none_failed [] added a b open' seals = refl
   none_failed (x ∷ xs) added a b open' seals = absurd (by_closed a.closed seals.closed)
     where
@@ -184,7 +166,7 @@ module _ {D : Type 0} (told : D → DiskTold) where
       by_closed false shut = let wrong : true ≡ false = sym shut ∙ open' in cc
 
   -- what is served goes on from an open desk
-  open_first : (s : State) (old new : Lasting D) (before : List (Stretch D)) (w : Stretch D) (after : List (Stretch D)) → Course told s old (before ++ w ∷ after) new → old.closed ≡ false
+  pub open_first : (s : State) (old new : Lasting D) (before : List (Stretch D)) (w : Stretch D) (after : List (Stretch D)) → Course told s old (before ++ w ∷ after) new → old.closed ≡ false
   open_first s old new [] w after (went, kept, more) = went.is_open
   open_first s old new (x ∷ before) w after (went, kept, more) = went.is_open
 
@@ -194,7 +176,7 @@ module _ {D : Type 0} (told : D → DiskTold) where
   none_closed s old new (w ∷ course) shut (went, kept, more) = absurd (let wrong : true ≡ false = sym shut ∙ went.is_open in cc)
 
   -- all that was sealed in a course, behind what was sealed before it
-  sealed_on : Then told → (nothing : Nothing told) → (s : State) (old mid new : Lasting D) (added failed : List JournalRecord) (course : List (Stretch D))
+  pub sealed_on : Then told → (nothing : Nothing told) → (s : State) (old mid new : Lasting D) (added failed : List JournalRecord) (course : List (Stretch D))
       → ((s : State) (old new : Lasting D) → Course told s old course new → (failed : List JournalRecord) × Seals told (sealed_in course) failed old new)
       → (b : Bool) → mid.closed ≡ b → Seals told added failed old mid → Course told s mid course new → (failed : List JournalRecord) × Seals told (added ++ sealed_in course) failed old new
   sealed_on then nothing s old mid new added failed course rest true shut seals more =
@@ -210,7 +192,7 @@ module _ {D : Type 0} (told : D → DiskTold) where
       (later, then added (sealed_in course) later old mid new clear those)
 
   -- the turns of a step and its snapshot
-  step_sealed : Then told → (s : State) (old : Lasting D) (w : Stretch D) → Went told s old w → (failed : List JournalRecord) × Seals told (w.sealed ++ w.snapshot) failed old w.after
+  pub step_sealed : Then told → (s : State) (old : Lasting D) (w : Stretch D) → Went told s old w → (failed : List JournalRecord) × Seals told (w.sealed ++ w.snapshot) failed old w.after
   step_sealed then s old w went = by_closed w.telling.closed refl
     where
       by_closed : (b : Bool) → w.telling.closed ≡ b → (failed : List JournalRecord) × Seals told (w.sealed ++ w.snapshot) failed old w.after
@@ -248,10 +230,10 @@ module _ {D : Type 0} (told : D → DiskTold) where
     pub texts : HoldsTexts told desk
 
   -- and what it sealed
-  stands_on : (records added : List JournalRecord) (old new : Lasting D) → StandsBehind records old → Seals told added [] old new → StandsBehind (records ++ added) new
+  pub stands_on : (records added : List JournalRecord) (old new : Lasting D) → StandsBehind records old → Seals told added [] old new → StandsBehind (records ++ added) new
   stands_on records added old new stands seals = record {
     settled = subst (λ (ps : List (List ℕ)). IsSettled (told new.disk) new.gate ps) (sym (map-append record_bytes records added)) (seals.on_disk.settled (payloads_of records) stands.settled refl);
-    state_is = state_append records added old.kept stands.state_is ∙ seals.kept (inl stands.texts);
+    state_is = state_then records added old.kept new.kept stands.state_is (seals.kept (inl stands.texts));
     texts = seals.texts stands.texts;
   }
 
@@ -265,7 +247,7 @@ module _ {D : Type 0} (told : D → DiskTold) where
   lasts_closed truth s records old w stands went =
       let failed = (turned s w.step).unsealed in
       let whole = records ++ w.sealed in
-      let state_is : state whole ≡ Some w.telling.kept = state_append records w.sealed old.kept stands.state_is ∙ went.turns.kept (inl stands.texts) in
+      let state_is : state whole ≡ Some w.telling.kept = state_then records w.sealed old.kept w.telling.kept stands.state_is (went.turns.kept (inl stands.texts)) in
       let honest = went.turns.on_disk.honest stands.settled.honest in
       record {
         state_is = state_is ∙ ap Some went.telling_is;
@@ -281,7 +263,7 @@ module _ {D : Type 0} (told : D → DiskTold) where
                   ∙ ap (λ (l : List (List ℕ)). payloads_of whole ++ l) (take-map record_bytes front.count failed) ∙ sym (map-append record_bytes whole (take front.count failed)))
                   front.stands;
               kept = can.0;
-              state_is = state_append whole (take front.count failed) w.telling.kept state_is ∙ can.1;
+              state_is = state_then whole (take front.count failed) w.telling.kept can.0 state_is can.1;
             };
       }
 

@@ -47,9 +47,7 @@ house_stays S kept kept' at by ask (Err (IsRefused why)) (due, same, seals) = ap
 house_stays S kept kept' at by ask (Err Disk) (item, is, same, seals) = ap (λ (k : Kept). k.house) same
 house_stays S kept kept' at by ask (Err Closed) wrong = absurd wrong
 
--- ---- what is said
-
--- the last words
+-- ---- what is said: the last words
 abbrev words : Out → List ℕ
 words (Say said) = []
 words (Bye said) = said
@@ -322,9 +320,7 @@ module _ {D : Type 0} (speech : Speech D) where
 
   -- what is asked of the desk is a turn, hindered or not
   pub asked_turn : (S : List JournalRecord → Counts → Type 0) (at : ℕ) (kept kept' : Kept) (ask : Ask) (d e : D) (outcome : Result Item SubmitFault) (old old' new : Reply) (T : Service → Asked → Turn D) → Concludes kept d T
-      → speech.is_due d ≡ true
-      → NoneGone kept
-      → old' ≡ record old { gone = old.gone ++ gone_between kept kept' }
+      → speech.is_due d ≡ true → NoneGone kept → old' ≡ record old { gone = old.gone ++ gone_between kept kept' }
       → Submits S at kept (speech.user d) ask kept' outcome
       → Settles speech outcome kept' d old' e new
       → (h : Hindrance) × Takes S (under h at kept (λ desk. T desk (desk.asked (speech.user d) ask))) old kept' e new
@@ -536,7 +532,7 @@ module _ {D : Type 0} (speech : Speech D) where
   pursued_same desk texts r kept d a (Read bodies) e = refl
   pursued_same desk texts r kept d a (Submit ask) e = refl
 
-  submits_same : (desk : Service) (texts : List Body → Result (List (List ℕ)) ReadFault) (r : List Body → Reads) (kept : Kept) (out : Out) (d : D)
+  pub submits_same : (desk : Service) (texts : List Body → Result (List (List ℕ)) ReadFault) (r : List Body → Reads) (kept : Kept) (out : Out) (d : D)
       → submits speech (record desk { texts = texts; reads = r }) kept out d ≡ submits speech desk kept out d
   submits_same desk texts r kept (Say said) d = refl
   submits_same desk texts r kept (Bye said) d = refl
@@ -554,7 +550,7 @@ module _ {D : Type 0} (speech : Speech D) where
   quiet_under Unread at kept f quiet = quiet (unread kept (service at kept))
   quiet_under UnreadRefused at kept f quiet = quiet (unread_unsaid kept (service at kept))
   quiet_under UnreadUnheard at kept f quiet = quiet (stopped (unread kept (service at kept)))
-  quiet_under (Misread texts h) at kept f quiet = quiet_under h at kept (λ desk. f (misread texts desk)) (λ desk. quiet (misread texts desk))
+  quiet_under (Misread texts h) at kept f quiet = quiet_under h at kept (λ desk. f (misread kept texts desk)) (λ desk. quiet (misread kept texts desk))
   quiet_under (Misled said left) at kept f quiet = quiet (service at kept)
   quiet_under Unstored at kept f quiet = quiet (without_items kept (service at kept))
   quiet_under Unheard at kept f quiet = refl
@@ -583,18 +579,18 @@ module _ {D : Type 0} (speech : Speech D) where
 
   -- turns before which texts were read, of which S is known behind that, and S' with it
   module _ (S S' : List JournalRecord → Counts → Type 0) (at : ℕ) (kept kept' : Kept) (e : D) (old new : Reply) where
-    abbrev Before : Turn D → Type 0
+    abbrev pub Before : Turn D → Type 0
     Before t = Takes S t old kept' e new
 
-    abbrev With : Turn D → Type 0
+    abbrev pub With : Turn D → Type 0
     With t = Takes S' t old kept' e new
 
     -- where texts were read so before, S' holds of that and of the rest
-    abbrev AsRead : Reads → Type 0
+    abbrev pub AsRead : Reads → Type 0
     AsRead r = (failed : List JournalRecord) (n : ℕ) → S failed (wanting n) → S' failed (record { reads = r; starved = n })
 
     -- the texts were others
-    wrong_turn : AsRead none_read → AsRead wrong_once
+    pub wrong_turn : AsRead none_read → AsRead wrong_once
         → (h : Hindrance) (f : Service → Turn D) → ((desk : Service) → (f desk).counts.reads ≡ none_read)
         → Before (under h at kept f) → With (under h at kept (λ desk. reading wrong_once (f desk)))
     wrong_turn none wrong Clear f quiet t = reread S S' wrong_once (f (service at kept)) old kept' e new (quiet (service at kept)) wrong t
@@ -607,7 +603,7 @@ module _ {D : Type 0} (speech : Speech D) where
         let desk = unread_unsaid kept (service at kept) in reread S S' wrong_once (f desk) old kept' e new (quiet desk) wrong t
     wrong_turn none wrong UnreadUnheard f quiet t =
         let desk = stopped (unread kept (service at kept)) in reread S S' wrong_once (unanswered (f desk)) old kept' e new (quiet desk) wrong t
-    wrong_turn none wrong (Misread texts h) f quiet t = wrong_turn none wrong h (λ desk. f (misread texts desk)) (λ desk. quiet (misread texts desk)) t
+    wrong_turn none wrong (Misread texts h) f quiet t = wrong_turn none wrong h (λ desk. f (misread kept texts desk)) (λ desk. quiet (misread kept texts desk)) t
     wrong_turn none wrong (Misled said left) f quiet t = reread S S' wrong_once (f (service at kept)) old kept' e new (quiet (service at kept)) wrong t
     wrong_turn none wrong Unstored f quiet t =
         let desk = without_items kept (service at kept) in reread S S' wrong_once (f desk) old kept' e new (quiet desk) wrong t
@@ -643,7 +639,7 @@ module _ {D : Type 0} (speech : Speech D) where
     given_same bodies d texts r desk =
         let u = speech.heard d (Ok (texts_kept kept bodies)) in submits_same desk texts r kept u.out u.dialog
 
-    right_turn : (bodies : List Body) (d : D) → AsRead none_read
+    pub right_turn : (bodies : List Body) (d : D) → AsRead none_read
         → (h : Hindrance) → Before (under h at kept (given speech kept (texts_kept kept bodies) d))
         → (h' : Hindrance) × With (under h' at kept (λ desk. followed speech desk kept (Read bodies) d))
     right_turn bodies d none Clear t = (Clear, right_with bodies d (service at kept) none t)
@@ -660,7 +656,7 @@ module _ {D : Type 0} (speech : Speech D) where
         let desk = unread kept (service at kept) in
         (Unanswered, right_without bodies d (stopped (service at kept)) none (subst (λ (u : Turn D). Before (unanswered u)) (given_same bodies d desk.texts desk.reads (stopped (service at kept))) t))
     right_turn bodies d none (Misread texts h) t =
-        right_turn bodies d none h (subst (λ (f : Service → Turn D). Before (under h at kept f)) (λ j desk. given_same bodies d (λ _. Ok texts) (λ _. wrong_once) desk j) t)
+        right_turn bodies d none h (subst (λ (f : Service → Turn D). Before (under h at kept f)) (λ j desk. given_same bodies d (misread kept texts desk).texts (misread kept texts desk).reads desk j) t)
     right_turn bodies d none (Misled said left) t = (Clear, right_with bodies d (service at kept) none t)
     right_turn bodies d none Unstored t = (Unstored, right_with bodies d (without_items kept (service at kept)) none t)
     right_turn bodies d none Unheard t = (Unheard, reread S S' none_read (lost {D = D} kept) old kept' e new refl none t)
@@ -670,20 +666,6 @@ module _ {D : Type 0} (speech : Speech D) where
     right_turn bodies d none Unwritten t = (Unwritten, right_with bodies d (without_writes kept (service at kept)) none t)
     right_turn bodies d none UnwrittenUnheard t = (UnwrittenUnheard, right_without bodies d (stopped (without_writes kept (service at kept))) none t)
     right_turn bodies d none (Halfway h) t = (Halfway h, right_with bodies d (halfway h (service at kept)) none t)
-
-    -- one or the other
-    by_texts : (bodies : List Body) (texts : List (List ℕ)) (d : D) → AsRead none_read
-        → (texts ≡ texts_kept kept bodies) ⊎ AsRead wrong_once
-        → (h : Hindrance) → Before (under h at kept (given speech kept texts d))
-        → (h' : Hindrance) × With (under h' at kept (λ desk. followed speech desk kept (Read bodies) d))
-    by_texts bodies texts d none (inl right) h t =
-        right_turn bodies d none h (subst (λ (x : List (List ℕ)). Before (under h at kept (given speech kept x d))) right t)
-    by_texts bodies texts d none (inr wrong) h t =
-        let u = speech.heard d (Ok texts) in (
-          Misread texts h,
-          subst (λ (f : Service → Turn D). With (under h at kept f)) (λ j desk. reading wrong_once (sym (submits_same desk (λ _. Ok texts) (λ _. wrong_once) kept u.out u.dialog) j))
-              (wrong_turn none wrong h (given speech kept texts d) (λ desk. quiet_submits desk kept u.out u.dialog) t),
-        )
 
   -- an ask of a unit that has its texts
   pub given_turn : (S : List JournalRecord → Counts → Type 0) (at : ℕ) (kept kept' : Kept) (texts : List (List ℕ)) (out : Out) (d e e' : D) (old new : Reply)
@@ -791,14 +773,3 @@ module _ {D : Type 0} (speech : Speech D) where
   unread_turn S at kept bodies NotRead d e old new awaits due seals (inr (inr t)) =
       let desk = stopped (unread kept (service at kept)) in
       (UnreadUnheard, ended_due S NotRead desk kept bodies d e old new (due refl) (ended_why S NotRead failed_once desk kept d e old new awaits seals t))
-
-  -- the texts of a unit were read, and handed to the session
-  pub texts_turn : (S S' : List JournalRecord → Counts → Type 0) (at : ℕ) (kept kept' : Kept) (bodies : List Body) (texts : List (List ℕ)) (d e : D) (old new : Reply) → speech.takes_texts d ≡ true
-      → ((failed : List JournalRecord) (n : ℕ) → S failed (wanting n) → S' failed (wanting n))
-      → (texts ≡ texts_kept kept bodies) ⊎ ((failed : List JournalRecord) (n : ℕ) → S failed (wanting n) → S' failed (record { reads = wrong_once; starved = n }))
-      → TakesTexts speech S at kept texts d old kept' e new
-      → (h : Hindrance) × Takes S' (under h at kept (λ desk. followed speech desk kept (Read bodies) d)) old kept' e new
-  texts_turn S S' at kept kept' bodies texts d e old new awaits none which (inl (h, t)) = by_texts S S' at kept kept' e old new bodies texts d none which h t
-  texts_turn S S' at kept kept' bodies texts d e old new awaits none which (inr (t, same, seals)) =
-      subst (λ (k : Kept). (h : Hindrance) × Takes S' (under h at kept (λ desk. followed speech desk kept (Read bodies) d)) old k e new) (sym same)
-      (textless_turn S' at kept bodies d e old new awaits (none [] 0 seals) t)

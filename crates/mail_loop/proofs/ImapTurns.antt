@@ -1,4 +1,4 @@
--- Turns of a mail reader: a command as it stands in the stream, and what is none.
+-- Turns of an IMAP client: a command as it stands in the stream, and what is none.
 use Rattle.std.proofs.Common.{◌≡◌, ℕ, List, [], ◌++◌, Bool, false, Option, Result, Ok, Err, IfOk, refl, ap, subst, sym, ◌∙◌, inl, inr}
 use Rattle.undo_base.specs.declared.memory.NoMemory.{NoMemory as WantOfMemory}
 use Rattle.verb_core.specs.declared.conf.House.{House}
@@ -28,7 +28,7 @@ use Rattle.mail_loop.specs.ImapTook.{IsAnswered, obeyed, obeyed_under}
 use Rattle.mail_loop.proofs.Units.{or_told}
 use Rattle.mail_loop.proofs.Telling.{closed, told_whole}
 
--- a turn of a mail reader's connection at a moment
+-- a turn of an IMAP client's connection at a moment
 abbrev pub next_at : ℕ → ℕ → Seats → Hindrance → Kept → Dialog → Next → Turn Dialog
 next_at at conn seats h kept d next = hindered imap_session h at kept (beside conn seats) d next
 

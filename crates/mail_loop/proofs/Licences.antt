@@ -44,7 +44,7 @@ same_licence Unread at at' kept kept' told told' turn turn' = refl
 same_licence UnreadRefused at at' kept kept' told told' turn turn' = refl
 same_licence UnreadUnheard at at' kept kept' told told' turn turn' = refl
 same_licence (Misread texts h) at at' kept kept' told told' turn turn' =
-    ap (λ (l : List Licence). WrongRead ∷ l) (same_licence h at at' kept kept' (lost kept) (lost kept') (λ desk. turn (misread texts desk)) (λ desk. turn' (misread texts desk)))
+    ap (λ (l : List Licence). WrongRead ∷ l) (same_licence h at at' kept kept' (lost kept) (lost kept') (λ desk. turn (misread kept texts desk)) (λ desk. turn' (misread kept' texts desk)))
 same_licence (Misled said left) at at' kept kept' told told' turn turn' = refl
 same_licence Unstored at at' kept kept' told told' turn turn' = refl
 same_licence Unheard at at' kept kept' told told' turn turn' = refl
@@ -146,10 +146,14 @@ unread_right why at kept bodies = by_test (some_recorded kept bodies)
     by_test true = refl
     by_test false = refl
 
--- texts that are others are given whatever is asked
-given_other : (texts : List (List ℕ)) (desk : Service) (r : Reads) → ReadsAs (misread texts desk) r → (r ≡ none_read) ⊎ (r ≡ wrong_once)
-given_other texts desk r (inl is) = inl is
-given_other texts desk r (inr (bodies, is)) = inr is
+-- other texts are given where a record has some of those that are asked
+given_other : (kept : Kept) (texts : List (List ℕ)) (desk : Service) (r : Reads) → ReadsAs (misread kept texts desk) r → (r ≡ none_read) ⊎ (r ≡ wrong_once)
+given_other kept texts desk r (inl is) = inl is
+given_other kept texts desk r (inr (bodies, is)) = by_test (some_recorded kept bodies) is
+  where
+    by_test : (b : Bool) → r ≡ (if b then wrong_once else none_read) → (r ≡ none_read) ⊎ (r ≡ wrong_once)
+    by_test true is = inr is
+    by_test false is = inl is
 
 -- whether there is a licence
 abbrev some : List Licence → Bool
@@ -189,7 +193,7 @@ sealed_under Textless at kept f none seals = seals (without_texts (service at ke
 sealed_under Unread at kept f none seals = seals (unread kept (service at kept)) (λ by ask. refl)
 sealed_under UnreadRefused at kept f none seals = seals (unread_unsaid kept (service at kept)) (λ by ask. refl)
 sealed_under UnreadUnheard at kept f none seals = seals (stopped (unread kept (service at kept))) (λ by ask. refl)
-sealed_under (Misread texts h) at kept f none seals = sealed_under h at kept (λ desk. f (misread texts desk)) none (λ desk all. seals (misread texts desk) all)
+sealed_under (Misread texts h) at kept f none seals = sealed_under h at kept (λ desk. f (misread kept texts desk)) none (λ desk all. seals (misread kept texts desk) all)
 sealed_under (Misled said left) at kept f none seals = seals (service at kept) (λ by ask. refl)
 sealed_under Unstored at kept f none seals = seals (without_items kept (service at kept)) (λ by ask. refl)
 sealed_under Unheard at kept f none seals = refl
@@ -209,7 +213,7 @@ fed_under Textless at kept f none feeds = feeds (without_texts (service at kept)
 fed_under Unread at kept f none feeds = feeds (unread kept (service at kept)) (λ by ask. refl)
 fed_under UnreadRefused at kept f none feeds = feeds (unread_unsaid kept (service at kept)) (λ by ask. refl)
 fed_under UnreadUnheard at kept f none feeds = feeds (stopped (unread kept (service at kept))) (λ by ask. refl)
-fed_under (Misread texts h) at kept f none feeds = fed_under h at kept (λ desk. f (misread texts desk)) none (λ desk all. feeds (misread texts desk) all)
+fed_under (Misread texts h) at kept f none feeds = fed_under h at kept (λ desk. f (misread kept texts desk)) none (λ desk all. feeds (misread kept texts desk) all)
 fed_under (Misled said left) at kept f none feeds = feeds (service at kept) (λ by ask. refl)
 fed_under Unstored at kept f none feeds = feeds (without_items kept (service at kept)) (λ by ask. refl)
 fed_under Unheard at kept f none feeds = refl
@@ -312,10 +316,10 @@ module _ {D : Type 0} (at : ℕ) (kept : Kept) where
   given_row UnreadUnheard told turn sealed read fair =
       let desk = stopped (unread kept (service at kept)) in record { writes = λ none. fair.seals desk all_sealed; reads = none_failed (turn desk).counts.reads (fair.reads desk); starved = λ none. fair.feeds desk all_fed }
   given_row (Misread texts h) told turn sealed read fair =
-      let other = given_row h (lost kept) (λ desk. turn (misread texts desk)) refl refl (record {
-        seals = λ desk all. fair.seals (misread texts desk) all;
-        feeds = λ desk all. fair.feeds (misread texts desk) all;
-        reads = λ desk. fair.reads (misread texts desk);
+      let other = given_row h (lost kept) (λ desk. turn (misread kept texts desk)) refl refl (record {
+        seals = λ desk all. fair.seals (misread kept texts desk) all;
+        feeds = λ desk all. fair.feeds (misread kept texts desk) all;
+        reads = λ desk. fair.reads (misread kept texts desk);
       }) in
       record { writes = other.writes; reads = other.reads; starved = other.starved }
   given_row (Misled said left) told turn sealed read fair =
@@ -340,7 +344,7 @@ module _ {D : Type 0} (at : ℕ) (kept : Kept) where
       record { writes = λ none. fair.seals desk (λ by ask. refl, further_seals h none); reads = none_failed (turn desk).counts.reads (fair.reads desk); starved = λ none. fair.feeds desk (λ by ask. refl, further_feeds h none) }
 
   licensed : (h : Hindrance) (told : Turn D) (turn : Service → Turn D) → told.unsealed ≡ [] → told.counts ≡ none_counted → IsFair turn
-      → ((texts : List (List ℕ)) → IsGiven (λ desk. turn (misread texts desk))) → IsLicensed (turn (service at kept)) (row h at kept told turn)
+      → ((texts : List (List ℕ)) → IsGiven (λ desk. turn (misread kept texts desk))) → IsLicensed (turn (service at kept)) (row h at kept told turn)
   licensed Clear told turn sealed read fair given =
       quiet_row (turn (service at kept)) (row Clear at kept told turn) (λ e. refl) (fair.seals (service at kept) all_sealed) (either_none (service at kept) (λ bodies. refl) (turn (service at kept)).counts.reads (fair.reads (service at kept)))
       (fair.feeds (service at kept) all_fed)
@@ -358,7 +362,7 @@ module _ {D : Type 0} (at : ℕ) (kept : Kept) where
       let desk = stopped (unread kept (service at kept)) in
       record { goes = λ e. absurd (true≢false (ap some e)); writes = λ none. fair.seals desk all_sealed; reads = λ wrong. absurd (true≢false wrong); wrong = λ none. none_wrong desk (unread_right NotRead at kept) (turn desk).counts.reads (fair.reads desk); starved = λ none. fair.feeds desk all_fed }
   licensed (Misread texts h) told turn sealed read fair given =
-      let other = given_row h (lost kept) (λ desk. turn (misread texts desk)) refl refl (given texts) in
+      let other = given_row h (lost kept) (λ desk. turn (misread kept texts desk)) refl refl (given texts) in
       record { goes = λ e. absurd (true≢false (ap some e)); writes = other.writes; reads = λ none. other.reads; wrong = λ wrong. absurd (true≢false wrong); starved = other.starved }
   licensed (Misled said left) told turn sealed read fair given =
       record {
@@ -414,9 +418,9 @@ session_licensed {D} session h at kept others d unit sealed read =
       reads = λ desk. followed_reads session.speech kept desk t.out t.dialog;
     })
     (λ texts. record {
-      seals = λ desk all. followed_sealed session.speech kept (misread texts desk) t.out t.dialog all;
-      feeds = λ desk all. followed_fed session.speech kept (misread texts desk) t.out t.dialog all;
-      reads = λ desk. given_other texts desk (followed session.speech (misread texts desk) kept t.out t.dialog).counts.reads (followed_reads session.speech kept (misread texts desk) t.out t.dialog);
+      seals = λ desk all. followed_sealed session.speech kept (misread kept texts desk) t.out t.dialog all;
+      feeds = λ desk all. followed_fed session.speech kept (misread kept texts desk) t.out t.dialog all;
+      reads = λ desk. given_other kept texts desk (followed session.speech (misread kept texts desk) kept t.out t.dialog).counts.reads (followed_reads session.speech kept (misread kept texts desk) t.out t.dialog);
     })
 
 -- what a session says of want of memory for a unit

@@ -1,4 +1,4 @@
--- What is taken from a mail reader's stream.
+-- What is taken from an IMAP client's stream.
 use Rattle.std.proofs.Common.{◌≡◌, true, false, List, [], ◌∷◌, ◌++◌, ap, sym}
 use Rattle.imap_stream.specs.Commands.{Heard, TakesNext, emptied}
 use Rattle.imap_stream.specs.declared.next.Next.{Next}

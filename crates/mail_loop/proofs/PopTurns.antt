@@ -1,4 +1,4 @@
--- Turns of a fetching client: what its session gives for a line, and the users whose maildrops are in use.
+-- Turns of a POP3 client: what its session gives for a line, and the users whose maildrops are in use.
 use Rattle.std.proofs.Common.{◌≡◌, ◌==◌, ◌&&◌, ℕ, Bool, cond, not, true, false, true≢false, List, [], ◌∷◌, ◌++◌, filter_map, Option, None, Some, Result, Ok, Err, IfOk, refl, ap, subst, sym, ◌∙◌, inl, inr}
 use Rattle.std.specs.List.{cons_option}
 use Rattle.undo_base.specs.declared.keys.User.{User}
@@ -22,8 +22,7 @@ use Rattle.pop_session.specs.declared.out.PopOut.{PopOut}
 use Rattle.pop_session.specs.declared.out.PopOut.TheVariants.{Say as Says, Read as Reads, Submit as Submits, Bye as Ends}
 use Rattle.pop_session.specs.Dialog as session
 use Rattle.store_kept.specs.Kept.{Kept, store_of}
-use Rattle.store_kept.specs.Texts.{all_bodies}
-use Rattle.mail_desk.specs.Timeline.{has_text}
+use Rattle.store_kept.specs.Texts.{all_bodies, has_text_kept}
 use Rattle.verb_bytes.specs.declared.journal.JournalRecord.{JournalRecord}
 use Rattle.mail_loop.specs.Counts.{Counts, none_counted}
 use Rattle.mail_loop.specs.declared.reply.Reply.{Reply}
@@ -39,7 +38,7 @@ use Rattle.mail_loop.proofs.Dialogs.{textless_turn}
 use Rattle.mail_loop.proofs.Units.{begun_turn}
 use Rattle.mail_loop.proofs.Telling.{closed, lifted, told_whole}
 
--- a turn of a fetching client's connection at a moment, where these users have their maildrops in use
+-- a turn of a POP3 client's connection at a moment, where these users have their maildrops in use
 abbrev pub fetching_at : List User → ℕ → ℕ → Seats → Hindrance → Kept → Dialog → SmtpLine → Turn Dialog
 fetching_at users at conn seats h kept d line = hindered (pop_beside users) h at kept (beside conn seats) d line
 
@@ -63,11 +62,11 @@ asks_as_of (Reads body) d is = tt
 asks_as_of (Submits ask) d is = is.0 ∙ sym is.1
 
 -- the text that a line wants is that of an item in force
-pub there_of : (kept : Kept) (s : MailStore) (out : PopOut) → s ≡ store_of kept → session.ReadsOf s out → all_bodies (has_text kept.timeline) (store_of kept).boxes ≡ true → AreThere kept (of_pop out)
+pub there_of : (kept : Kept) (s : MailStore) (out : PopOut) → s ≡ store_of kept → session.ReadsOf s out → all_bodies (has_text_kept kept) (store_of kept).boxes ≡ true → AreThere kept (of_pop out)
 there_of kept s (Says said) same reads there = tt
 there_of kept s (Ends said) same reads there = tt
 there_of kept s (Reads body) same reads there =
-    ap (λ (b : Bool). b && true) (reads (has_text kept.timeline) (ap (λ (t : MailStore). all_bodies (has_text kept.timeline) t.boxes) same ∙ there))
+    ap (λ (b : Bool). b && true) (reads (has_text_kept kept) (ap (λ (t : MailStore). all_bodies (has_text_kept kept) t.boxes) same ∙ there))
 there_of kept s (Submits ask) same reads there = tt
 
 pub reading_of : (out : PopOut) (d : Dialog) → is_read out ≡ true → session.IsNext out d → session.is_reading d ≡ true
@@ -203,7 +202,7 @@ passed_over conn (e ∷ es) =
       | false ↦ ap (λ (us : List User). cons_option (user_at e.1) us) (passed_over conn es)
     ]
 
--- they are looked for where a fetching client asks
+-- they are looked for where a POP3 client asks
 pub found_for : (conn : ℕ) (seats : Seats) (seat : Seat) (users : Result (List User) WantOfMemory) → IfOk users (λ us. us ≡ in_use (beside conn seats)) → AreInUse conn seats seat users
 found_for conn seats (Smtp unserved d) users are = tt
 found_for conn seats (Imap stream d) users are = tt

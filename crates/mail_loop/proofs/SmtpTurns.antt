@@ -1,4 +1,4 @@
--- Turns of a mail client: what its session gives for a line.
+-- Turns of an SMTP client: what its session gives for a line.
 use Rattle.std.proofs.Common.{◌≡◌, ℕ, Bool, cond, not, [], true, false, List, ◌++◌, None, Some, Option, Result, Ok, Err, length, nat_le, codes, bytes_eq, option_map, unwrap_or, refl, ap, subst, sym, ◌∙◌, inl, inr}
 use Rattle.smtp_lines.specs.declared.line.SmtpLine.{SmtpLine}
 use Rattle.smtp_lines.specs.declared.command.SmtpCommand.TheVariants.{Helo, Ehlo, Mail, Rcpt, Data, Rset, Noop, Vrfy, Quit}
@@ -34,7 +34,7 @@ use Rattle.mail_loop.specs.Took.{Adds, AreThere, AsksAs, GoesOn, IsNext, IsNone,
 use Rattle.mail_loop.proofs.Units.{begun_turn}
 use Rattle.mail_loop.proofs.Telling.{closed, told_whole}
 
--- a turn of a mail client's connection at a moment
+-- a turn of an SMTP client's connection at a moment
 abbrev pub line_at : ℕ → ℕ → Seats → Hindrance → Kept → Dialog → SmtpLine → Turn Dialog
 line_at at conn seats h kept d line = hindered smtp_session h at kept (beside conn seats) d line
 
@@ -63,10 +63,10 @@ IsQuietOut (Say said) e = session.is_due e ≡ false
 IsQuietOut (Bye said) e = session.is_due e ≡ false
 IsQuietOut (Asks ask) e = ⊥
 
-abbrev IsQuiet : session.Turn → Type 0
+abbrev IsQuiet : session.DialogTurn → Type 0
 IsQuiet t = IsQuietOut t.out t.dialog
 
-quiet_if : (b : Bool) (t u : session.Turn) → IsQuiet t → IsQuiet u → IsQuiet (cond b t u)
+quiet_if : (b : Bool) (t u : session.DialogTurn) → IsQuiet t → IsQuiet u → IsQuiet (cond b t u)
 quiet_if true t u first second = first
 quiet_if false t u first second = second
 
@@ -149,15 +149,15 @@ line_asks house conf at client (Writing path to text) line free =
 pub line_gives : (house : House) (conf : Conf) (at : ℕ) (d e : Dialog) (line : SmtpLine) (out : SmtpOut) → session.is_due d ≡ false
     → session.turn house conf at d line ≡ session.turns out e → AsksAtEnd d out e
 line_gives house conf at d e line out free is =
-    subst (λ (t : session.Turn). AsksAtEnd d t.out t.dialog) is (line_asks house conf at d.client d.transaction line free)
+    subst (λ (t : session.DialogTurn). AsksAtEnd d t.out t.dialog) is (line_asks house conf at d.client d.transaction line free)
 
 -- no outcome is due once it was told
 pub free_after : (d e : Dialog) (outcome : Result Item SubmitFault) (out : SmtpOut) → session.settle d outcome ≡ session.turns out e → is_free e ≡ true
-free_after d e outcome out is = sym (ap (λ (t : session.Turn). is_free t.dialog) is)
+free_after d e outcome out is = sym (ap (λ (t : session.DialogTurn). is_free t.dialog) is)
 
 -- and it asked nothing
 pub answered_after : (d e : Dialog) (outcome : Result Item SubmitFault) (out : SmtpOut) → session.settle d outcome ≡ session.turns out e → is_answer (of_smtp out) ≡ true
-answered_after d e outcome out is = sym (ap (λ (t : session.Turn). is_answer (of_smtp t.out)) is) ∙ answers (session.host_due d.transaction) outcome
+answered_after d e outcome out is = sym (ap (λ (t : session.DialogTurn). is_answer (of_smtp t.out)) is) ∙ answers (session.host_due d.transaction) outcome
 
 -- it makes nothing of texts
 pub free_goes_on : (texts : Result (List (List ℕ)) ReadFault) (said : List ℕ) (d : Dialog) → is_free d ≡ true → GoesOn smtp_speech texts (gives.Say said) d

@@ -17,7 +17,7 @@ use Rattle.mail_loop.specs.ConsoleTurn.{AreSaid, Reading, no_consoles}
 use Rattle.mail_loop.specs.Afterwards.{taking}
 use Rattle.mail_loop.specs.Machine.{heard, hears, seated, told_others, with_reply}
 use Rattle.mail_loop.proofs.Sealed.{no_more, none_before, counts_regroup}
-use Rattle.mail_loop.specs.Took.{Takes, Tells, seat_left, answered_alone, going_on_with}
+use Rattle.mail_loop.specs.Took.{Takes, TellsTurns, seat_left, answered_alone, going_on_with}
 
 -- what is kept, beside seats that no turn touches
 abbrev beside : Seats → Kept → State
@@ -169,7 +169,7 @@ pub told_by : {D U : Type 0} → (one : Seats → Hindrance → Kept → D → U
     → (hs : List Hindrance) × (turns (alone one) hs (record { kept = kept; seats = seats }) d all ≡ left seats reply kept' failed counts o)
     → option_map seat_of o ≡ seat_left reply.closes seat → S failed counts
     → (hs : List Hindrance) × (failed : List JournalRecord) × (counts : Counts) × S failed counts
-    × Tells (heard_by seat_of (turns (alone one) hs (record { kept = kept; seats = seats }) d all)) seats conn reply kept' failed counts seat
+    × TellsTurns (heard_by seat_of (turns (alone one) hs (record { kept = kept; seats = seats }) d all)) seats conn reply kept' failed counts seat
 told_by one seat_of seats kept d all conn reply kept' failed counts seat o S same (hs, is) left_is seals = (
   hs,
   failed,
@@ -188,7 +188,7 @@ none_left false seat = refl
 
 -- the answers of the turns are the one reply
 pub heard_alone : (h : Heard) (seats : Seats) (conn : ℕ) (reply : Reply) (kept : Kept) (failed : List JournalRecord) (counts : Counts) (seat : Seat)
-    → Tells h seats conn reply kept failed counts seat
+    → TellsTurns h seats conn reply kept failed counts seat
     → heard conn h ≡ answered_alone conn (going_on_with reply) kept failed counts [] seat seats
 heard_alone h seats conn reply kept failed counts seat t =
     ap (heard conn) t.heard_is
@@ -224,15 +224,15 @@ pub seat_goes : (closes : Bool) (seat : Seat) → closes ≡ true → ◌≡◌ 
 seat_goes true seat shut = refl
 seat_goes false seat shut = absurd (let w : false ≡ true = shut in cc)
 
--- the bytes of a connection are heard, and this is its reply, whether serving is asked to stop, what is kept, the record whose sealing failed, what could
--- not be read, and its seat then
+-- The bytes of a connection are heard, and this is its reply. This is whether serving is asked to stop, what is kept, the record whose sealing
+-- failed, what could not be read, and its seat then.
 abbrev pub HeardAlone : (List JournalRecord → Counts → Type 0) → ℕ → Kept → Seats → ℕ → Seat → List ℕ → Turned → Kept → Seat → Type 0
 HeardAlone S at kept seats conn seat bytes turned kept' seat' =
     (no_memory : Bool) × (hs : List Hindrance) × (stage : Stage) × (failed : List JournalRecord) × (counts : Counts) × S failed counts × (readings : List Reading) × AreSaid readings
     × (hears no_memory hs stage at (record { kept = kept; seats = seats }) conn seat bytes
     ≡ answered_alone conn turned kept' failed counts readings seat' seats)
 
--- the turns of a mail client or a mail reader
+-- the turns of an SMTP client or an IMAP client
 pub going : (S : List JournalRecord → Counts → Type 0) (at : ℕ) (kept : Kept) (seats : Seats) (conn : ℕ) (seat : Seat) (bytes : List ℕ) (reply : Reply) (turned : Turned) (kept' : Kept) (seat' : Seat)
     → turned ≡ going_on_with reply
     → (b : Bool) (hs : List Hindrance) (stage : Stage) (failed : List JournalRecord) (counts : Counts) → S failed counts

@@ -22,9 +22,9 @@ turned s step = answered step.hindrances.unfed step.hindrances.turns step.hindra
 abbrev pub behind : State → Step → State
 behind s step = (happens step.hindrances s step.event).state
 
--- A step of serving over a desk. Behind its turns the desk is `telling`, and these records of theirs are sealed; at its end the desk is `after`, and the
--- snapshot that was due is sealed, or nothing. That the strings are sent between the two no clause says, since a link tells no moment of a disk: the
--- machine's definition has them there (`happens`), and its log is the link's.
+-- A step of serving over a desk. Behind its turns the desk is `telling`, and these records of theirs are sealed; at its end the desk is `after`, and
+-- the snapshot that was due is sealed, or nothing. That the strings are sent between the two no clause says, since a link tells no moment of a disk.
+-- The machine's definition has them there (`happens`), and its log is the link's.
 pub record Stretch (D : Type 0) : Type 0 where
   pub step : Step
   pub sealed : List JournalRecord
@@ -32,12 +32,12 @@ pub record Stretch (D : Type 0) : Type 0 where
   pub snapshot : List JournalRecord
   pub after : Lasting D
 
--- From an open desk on a step went so: its turns sealed these records, in order, but for the one of them whose sealing failed, and what the desk kept
+-- From an open desk on a step went so. Its turns sealed these records, in order, but for the one of them whose sealing failed. What the desk kept
 -- behind them is what the machine keeps before its strings. In these turns just as many reads failed as the machine says that texts were not read in
--- them, so that a client is told of a failed read in no step without one; and just as many writes found no memory as the machine says that turns were
--- hindered by that (`Unwritten`), so that in a step without one the disk's count of them stands. Behind these turns a snapshot was sealed, or nothing,
--- or its sealing failed, and no read failed; a write found no memory only where the machine says that the snapshot was due and left out for that. A
--- desk that was closed by then sealed nothing more.
+-- them. So a client is told of a failed read in no step without one. And just as many writes found no memory as the machine says that turns were
+-- hindered by that (`Unwritten`): so in a step without one the disk's count of them stands. Behind these turns a snapshot was sealed, or nothing, or
+-- its sealing failed, and no read failed. A write found no memory only where the machine says that the snapshot was due and left out for that. A desk
+-- that was closed by then sealed nothing more.
 pub record Went {D : Type 0} (told : D → DiskTold) (s : State) (old : Lasting D) (w : Stretch D) : Type 0 where
   pub is_open : old.closed ≡ false
   pub turns : Seals told w.sealed (turned s w.step).unsealed old w.telling
@@ -83,8 +83,8 @@ pub record Lasts (records : List JournalRecord) (kept : Kept) (disk : DiskTold) 
 abbrev pub kept_at : Kept → List Step → Step → Kept
 kept_at first before step = (turned (run before (at_first first)).state step).state.kept
 
--- What was answered before a moment is in every image of that moment and of each later one: for each step, since the moment behind its
--- turns, the records at first and all that were sealed by then, which leave what the machine keeps then.
+-- What was answered before a moment is in every image of that moment and of each later one. For each step, since the moment behind its
+-- turns, that is the records at first and all that were sealed by then, which leave what the machine keeps then.
 abbrev pub AnswersLast : {D : Type 0} → (D → DiskTold) → List JournalRecord → Kept → List (Stretch D) → DiskTold → Type 0
 AnswersLast {D} told records first course disk =
     (before : List (Stretch D)) (w : Stretch D) (after : List (Stretch D)) → course ≡ before ++ w ∷ after

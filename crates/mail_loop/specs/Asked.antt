@@ -53,7 +53,7 @@ unsealed_as kept (Err why) = asked_as (Err (IsRefused why)) kept
 abbrev pub fails : ℕ → Kept → Asking
 fails at kept by ask = unsealed_as kept (live (store_of kept) kept.next at by ask kept.deep)
 
--- from old to new the desk sealed some records, the sealing of these failed, so many turns could not read or were given other texts, and just so many
--- writes found no memory
+-- From old to new the desk sealed some records, and the sealing of these failed. So many turns could not read or were given other texts, and just so
+-- many writes found no memory.
 abbrev pub HaveSealed : {D : Type 0} → (D → DiskTold) → Lasting D → Lasting D → List JournalRecord → Counts → Type 0
 HaveSealed told old new failed counts = (added : List JournalRecord) × Seals told added failed old new × HaveCounted told old new counts

@@ -5,7 +5,7 @@ use Rattle.console_head.specs.Request.{Says, Stage}
 use Rattle.console_session.specs.declared.reply.After.{After}
 use Rattle.console_session.specs.declared.reply.After.TheVariants.{Waits, Closes, Stops, Fails, Rewinds, Upgrades}
 use Rattle.console_session.specs.Hindrance as console
-use Rattle.console_session.specs.Turn.{Turn as ConsoleTurn, asked_of}
+use Rattle.console_session.specs.ConsoleTurn.{ConsoleTurn, asked_of}
 use Rattle.store_kept.specs.Kept.{Kept}
 use Rattle.mail_loop.specs.declared.aftermath.Aftermath.TheVariants.{Quiet, Rewound, Upgraded}
 use Rattle.mail_loop.specs.declared.console_turn.Sequel.{Sequel}

@@ -88,14 +88,15 @@ pub record Sends (d : Delivered) (old new : LinkTold) (seats : Seats) (result : 
   pub did : Did (λ notes more. StopsAtClose more new) d.notes old new result
   pub seats_are : MatchResult result (λ _. seats ≡ d.seats) (λ _. Unit {0})
 
--- memory was wanted in an event: for its bytes and its strings, before anything was sealed, read and done, so that what was kept before is kept; or for
--- a close of it
+-- Memory was wanted in an event for its bytes and its strings, before anything was sealed, read and done: what was kept before is kept. Or it was
+-- wanted for a close of it.
 abbrev pub WantsIn : Outcome → Kept → ℕ → LinkTold → List LinkNote → List LinkNote → Type 0
 WantsIn o before unclosed new notes more =
     ((notes ≡ []) × (unclosed ≡ 0) × (o.unsealed ≡ []) × (o.counts ≡ none_counted) × (o.state.kept ≡ before)) ⊎ ((unclosed ≡ 1) × StopsAtClose more new)
 
--- an event, before which this was kept, led to this outcome, and serving is asked to stop or not, or memory was wanted before the link had done all of it; S holds of the record
--- whose sealing failed and of what was counted, and what consoles' bytes were read as is so. Where memory was wanted no snapshot was taken.
+-- An event, before which this was kept, led to this outcome, and serving is asked to stop or not; or memory was wanted before the link had done all
+-- of it. S holds of the record whose sealing failed and of what was counted, and what consoles' bytes were read as is so. Where memory was wanted no
+-- snapshot was taken.
 pub record Leads (S : List JournalRecord → Counts → Type 0) (unclosed : ℕ) (keeping : Keeping) (before : Kept) (o : Outcome) (old new : LinkTold) (kept : Kept) (seats : Seats) (result : Result Bool WantOfMemory) : Type 0 where
   pub did : Did (WantsIn o before unclosed new) o.notes old new result
   pub kept_is : kept ≡ o.state.kept
@@ -138,8 +139,8 @@ unkept_by IsStarved kept = []
 abbrev pub is_due_on : {D : Type 0} → Lasting D → Bool
 is_due_on desk = not desk.closed && nat_le 1024 desk.kept.marks.since
 
--- a desk took the snapshot that is due, or left it out, or its sealing failed; a write found no memory only where it is left out for that; a closed desk
--- stays as it was
+-- A desk took the snapshot that is due, or left it out, or its sealing failed. A write found no memory only where it is left out for that. A closed
+-- desk stays as it was.
 pub record Keeps {D : Type 0} (told : D → DiskTold) (k : Keeping) (old new : Lasting D) : Type 0 where
   pub kept_is : new.kept ≡ (if is_due_on old then kept_by k old.kept else old.kept)
   pub closed : old.closed ≡ true → new ≡ old

@@ -6,6 +6,7 @@ use Rattle.seal_log.specs.declared.fault.ReadFault.TheVariants.{Disk, NoMemory a
 use Rattle.verb_core.specs.declared.mailbox.Body.{Body}
 use Rattle.desk_journal.specs.Reading.{Reads, failed_once, none_read, wrong_once}
 use Rattle.desk_journal.specs.Stored.{is_recorded}
+use Rattle.desk_journal.specs.Telling.{with_memory}
 use Rattle.store_kept.specs.Kept.{Kept}
 use Rattle.store_kept.specs.Texts.{texts_kept}
 use Rattle.mail_loop.specs.Asked.{Asking, does, fails, starves, unwritten}
@@ -25,7 +26,7 @@ pub data Hindrance : Type 0 where
   UnreadRefused : Hindrance
   -- the same, and no memory was found for telling the client anything
   UnreadUnheard : Hindrance
-  -- the disk gave these texts, which are not those that were stored; beside that it goes so
+  -- the disk gave these texts, which are not those that were stored, of a unit of which a record has some; beside that it goes so
   Misread : List (List ℕ) → Hindrance → Hindrance
   -- the disk gave a console's request another text than was stored: so this is said, and where a cycle or a withdrawal is done this is kept
   Misled : List ℕ → Kept → Hindrance
@@ -91,8 +92,8 @@ is_starved_write FailedWrite = false
 is_starved_write WrongRead = false
 is_starved_write StarvedWrite = true
 
--- A row says nothing that its licence does not let it say: with none it is the turn as it should be; a record was not sealed, a text was not read or was
--- another, and a write found no memory, only where that is licensed.
+-- A row says nothing that its licence does not let it say: with none it is the turn as it should be. Only where that is licensed was a record not
+-- sealed, a text not read or another, or found a write no memory.
 pub record IsLicensed {D : Type 0} (clear : Turn D) (r : Row D) : Type 0 where
   pub goes : r.licence ≡ [] → r.follows ≡ clear
   pub writes : list_any is_failed_write r.licence ≡ false → r.follows.unsealed ≡ []
@@ -102,8 +103,8 @@ pub record IsLicensed {D : Type 0} (clear : Turn D) (r : Row D) : Type 0 where
 
 -- ---- the desk
 
--- How the desk serves a unit: the texts that it gives of bodies, whether it could not read them or gave others, and what becomes of an ask; at which moment,
--- and what hinders a further ask, to which the outcome of the first leads.
+-- How the desk serves a unit: the texts that it gives of bodies, whether it could not read them or gave others, and what becomes of an ask. And at
+-- which moment, and what hinders a further ask, to which the outcome of the first leads.
 pub record Service : Type 0 where
   pub texts : List Body → Result (List (List ℕ)) ReadFault
   pub reads : List Body → Reads
@@ -123,7 +124,7 @@ without_texts desk = record desk { texts = λ bodies. Err NoneForTexts }
 
 -- whether a record has one of the texts of bodies: then they are read, and else they are in memory
 abbrev pub some_recorded : Kept → List Body → Bool
-some_recorded kept bodies = list_any (is_recorded kept.timeline) bodies
+some_recorded kept bodies = list_any (is_recorded kept kept.timeline) bodies
 
 -- texts that a record has are not had for this cause, and a read failed for them; those in memory are given
 abbrev pub unread_for : ReadFault → Kept → Service → Service
@@ -140,9 +141,12 @@ unread kept desk = unread_for Disk kept desk
 abbrev pub unread_unsaid : Kept → Service → Service
 unread_unsaid kept desk = unread_for NoneForTexts kept desk
 
--- the disk gives these texts, which are not those that were stored
-abbrev pub misread : List (List ℕ) → Service → Service
-misread texts desk = record desk { texts = λ bodies. Ok texts; reads = λ bodies. wrong_once }
+-- the disk gives these texts of those that a record has, which are not those that were stored; those in memory are given as they are kept
+abbrev pub misread : Kept → List (List ℕ) → Service → Service
+misread kept texts desk = record desk {
+  texts = λ bodies. Ok (if some_recorded kept bodies then with_memory kept bodies texts else texts_kept kept bodies);
+  reads = λ bodies. if some_recorded kept bodies then wrong_once else none_read;
+}
 
 -- it finds no memory for what is asked, and nothing changes
 abbrev pub without_items : Kept → Service → Service
@@ -181,7 +185,7 @@ row Unread at kept told turn = record { licence = FailedRead ∷ []; follows = t
 row UnreadRefused at kept told turn = record { licence = FailedRead ∷ Free ∷ []; follows = turn (unread_unsaid kept (service at kept)) }
 row UnreadUnheard at kept told turn = record { licence = FailedRead ∷ Free ∷ []; follows = unanswered (turn (stopped (unread kept (service at kept)))) }
 row (Misread texts h) at kept told turn =
-    let other = row h at kept (lost kept) (λ desk. turn (misread texts desk)) in record { licence = WrongRead ∷ other.licence; follows = other.follows }
+    let other = row h at kept (lost kept) (λ desk. turn (misread kept texts desk)) in record { licence = WrongRead ∷ other.licence; follows = other.follows }
 row (Misled said left) at kept told turn = record { licence = WrongRead ∷ []; follows = turn (service at kept) }
 row Unstored at kept told turn = record { licence = Free ∷ []; follows = turn (without_items kept (service at kept)) }
 row Unheard at kept told turn = record { licence = Free ∷ []; follows = lost kept }

@@ -1,4 +1,4 @@
--- What the code's answers to a mail reader are in the machine.
+-- What the code's answers to an IMAP client are in the machine.
 use Rattle.std.specs.Prelude.{◌≡◌, ℕ, Bool, true, false, List, Result, Ok, Err}
 use Rattle.undo_base.specs.declared.memory.NoMemory.{NoMemory as WantOfMemory}
 use Rattle.imap_lines.specs.Command.{Reading}

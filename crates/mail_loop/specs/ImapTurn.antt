@@ -1,4 +1,4 @@
--- The session of a mail reader: a command, a literal mark or a bad line of its stream is a unit, and what is not whole yet is the last one.
+-- The session of an IMAP client: a command, a literal mark or a bad line of its stream is a unit, and what is not whole yet is the last one.
 use Rattle.std.specs.Prelude.{◌≡◌, ℕ, true, List, [], Option, None, Some, Result, Ok, Err}
 use Rattle.std.proofs.Common.{◌∙◌, refl, sym, true≢false}
 use Rattle.seal_log.specs.declared.fault.ReadFault.{ReadFault}
@@ -112,8 +112,8 @@ takes kept d NotYet = took (Say []) d
 abbrev pub memory_told : List ℕ → List ℕ
 memory_told tag = tagged tag (IsToldRefused NoMemory)
 
--- the session found no memory for a command: the client is told, and after a SELECT or EXAMINE no mailbox is selected, so that what
--- stands behind it in the stream is not done to the mailbox before; else the session is as it was
+-- The session found no memory for a command: the client is told. After a SELECT or EXAMINE no mailbox is selected, so that what
+-- stands behind it in the stream is not done to the mailbox before; else the session is as it was.
 abbrev pub starved_command : Kept → Dialog → Reading → Turn Dialog
 starved_command kept d (Ok command) = says (memory_told command.tag) kept (session.without_memory command.what d)
 starved_command kept d (Err why) = lost kept

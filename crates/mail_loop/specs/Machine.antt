@@ -42,8 +42,8 @@ pub data Keeping : Type 0 where
   -- a write of it found no memory, as the disk says, and it is left out
   IsStarved : Keeping
 
--- What hinders an event: no memory for its bytes or its greeting, what hinders its turns, how each string goes, and how the snapshot that is due; and what a
--- console's bytes are read as.
+-- What hinders an event: no memory for its bytes or its greeting, what hinders its turns, how each string goes, and how the snapshot that is due. And
+-- what a console's bytes are read as.
 pub record Hindrances : Type 0 where
   pub unfed : Bool
   pub turns : List Hindrance
@@ -69,8 +69,8 @@ pub record Reply : Type 0 where
   pub said : List ℕ
   pub closes : Bool
 
--- what an event leaves before its strings are sent: the state, the replies by rising connection, the record whose sealing failed, where one did,
--- how many turns could not read a text or were given another, or found no memory in a write, and what came of consoles
+-- What an event leaves before its strings are sent: the state, the replies by rising connection, the record whose sealing failed, where one did,
+-- and what came of consoles. And how many turns could not read a text or were given another, or found no memory in a write.
 pub record Answered : Type 0 where
   pub state : State
   pub replies : List Reply
@@ -218,8 +218,8 @@ delivered ds seats (r ∷ rs) =
     let more = delivered (other_deliveries ds) (after_reply (remains d r.said r.closes) r.conn seats) rs in
     record { seats = more.seats; notes = reply_notes d r ++ more.notes }
 
--- what an event leaves: the state, what the link did for it, the record whose sealing failed, where one did, how many turns could not read a
--- text or were given another, how many writes found no memory, and what came of consoles
+-- What an event leaves: the state, what the link did for it, the record whose sealing failed, where one did, and what came of consoles. And
+-- how many turns could not read a text or were given another, and how many writes found no memory.
 pub record Outcome : Type 0 where
   pub state : State
   pub notes : List LinkNote

@@ -1,4 +1,4 @@
--- The session of a fetching client (RFC 1939): a line of its stream is a unit.
+-- The session of a POP3 client (RFC 1939): a line of its stream is a unit.
 use Rattle.std.specs.Prelude.{◌≡◌, ℕ, ◌==◌, Bool, true, false, filter_map, List, [], ◌∷◌, Option, None, Result, Ok, Err, if◌then◌else◌}
 use Rattle.std.proofs.Common.{◌∙◌, refl, sym, true≢false}
 use Rattle.undo_base.specs.declared.keys.User.{User}
@@ -103,7 +103,7 @@ is_fetching (Imap stream d) = false
 is_fetching (Http came) = false
 is_fetching (Pop unserved d) = true
 
--- who is logged in on a connection of a fetching client, or logs in
+-- who is logged in on a connection of a POP3 client, or logs in
 abbrev pub user_at : Seat → Option User
 user_at (Smtp unserved d) = None
 user_at (Imap stream d) = None

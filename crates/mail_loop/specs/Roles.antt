@@ -15,8 +15,8 @@ use Rattle.pop_session.specs.Answer as pop_answer
 use Rattle.pop_session.specs.Dialog as pop
 use Rattle.mail_loop.specs.State.{Seat, Smtp, Imap, Http, Pop}
 
--- A role: the seat of a connection that was just opened, what its client is greeted with, if it is, and its last words where the store is rewound and
--- where it is upgraded, which may say nothing; none where it goes on then.
+-- A role: the seat of a connection that was just opened, and what its client is greeted with, if it is. Its last words where the store is rewound and
+-- where it is upgraded may say nothing; there are none where it goes on then.
 pub record RoleRow : Type 0 where
   pub fresh : Seat
   pub greeting : House → Option (List ℕ)

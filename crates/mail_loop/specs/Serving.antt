@@ -113,8 +113,8 @@ pub record IsCutAtClose (wants : ℕ) (steps : List Step) (old : Kept) (more : L
 abbrev pub IsLeftUnsealed : ℕ → List Step → Kept → List LinkNote → Type 0
 IsLeftUnsealed wants steps old more = ((more ≡ []) × (wants ≡ 0)) ⊎ IsCutAtClose wants steps old more
 
--- what the link did not do where memory was wanted: nothing, where `next` found none; all that the last step leads to, where none was found for its
--- bytes or strings and nothing of it was done; or what follows from a close on for which none was found
+-- What the link did not do where memory was wanted. Nothing, where `next` found none; all that the last step leads to, where none was found for its
+-- bytes or strings and nothing of it was done. Or what follows from a close on for which none was found.
 abbrev pub IsLeftStarved : ℕ → List Step → Kept → List LinkNote → Type 0
 IsLeftStarved wants steps old more =
     ((more ≡ []) × (wants ≡ 1)) ⊎ (IsUndone steps old more × (wants ≡ 0)) ⊎ IsCutAtClose wants steps old more
@@ -125,8 +125,9 @@ EndsUnsealed steps old =
     (before : List Step) × (last : Step) × (steps ≡ before ++ last ∷ []) × NoEnd before × (unsealed_in before old ≡ [])
     × ((happens last.hindrances (run before (at_first old)).state last.event).unsealed ≢ [])
 
--- Serving ended: with the end or as a console asked; after so many turns without it; where the link failed; where sealing failed in the last step; or where memory was
--- wanted, somewhere in the last step or for the next. No more events were taken than so many. So many a `next` or a `close` found no memory: the last, or none.
+-- Serving ended: with the end or as a console asked; after so many turns without it; or where the link failed. Or where sealing failed in the last
+-- step, or where memory was wanted, somewhere in the last step or for the next. No more events were taken than so many. So many a `next` or a `close`
+-- found no memory: the last, or none.
 abbrev pub Served : ℕ → ℕ → List Step → Kept → List LinkNote → Kept → Result (Unit {0}) ServeFault → Type 0
 Served turns wants steps old notes new (Ok x) =
     Serves steps old notes new × Ends steps old × (unsealed_in steps old ≡ []) × (length steps ≤ turns) × (wants ≡ 0)
@@ -182,8 +183,8 @@ CountsFaults (Err Turns) old new = new.faults ≡ old.faults
 CountsFaults (Err Disk) old new = new.faults ≡ old.faults
 CountsFaults (Err NoMemory) old new = new.faults ≡ old.faults
 
--- How serving went: the machine's steps for the events that came, in order, and what the link did. A string was missed, and `next` failed,
--- only where the link counted it. A string was left out only where a call found no memory for it: the link counted these and the last `next` or `close` that
+-- How serving went: the machine's steps for the events that came, in order, and what the link did. A string was missed, and `next` failed, only where
+-- the link counted it. A string was left out only where a call found no memory for it. The link counted these and the last `next` or `close` that
 -- found none, if one did, and no other; there was no call after that.
 pub record ServedOver (turns : ℕ) (steps : List Step) (notes : List LinkNote) (old new : LinkTold) (kept kept' : Kept) (result : Result (Unit {0}) ServeFault) : Type 0 where
   pub wants : ℕ

@@ -50,9 +50,9 @@ is_said (Read bodies) = false
 is_said (Submit asked) = false
 is_said (Bye said) = false
 
--- How a session goes on, and who asks: what it makes of the texts that it wanted, or of why they can't be had, and of the outcome of its ask, with the
--- store and the stamps after it; whether nothing is awaited, texts may be handed to it, or an outcome is due. At first nobody
--- is logged in and nothing is awaited; without its texts it says something; an ask whose sealing failed ends it. Where an ask was done it may ask further, and
+-- How a session goes on, and who asks. It makes something of the texts that it wanted, or of why they can't be had, and of the outcome of its ask,
+-- with the store and the stamps after it. And whether nothing is awaited, texts may be handed to it, or an outcome is due. At first nobody is logged
+-- in and nothing is awaited; without its texts it says something; an ask whose sealing failed ends it. Where an ask was done it may ask further, and
 -- then the outcome is answered.
 pub record Speech (D : Type 0) : Type 0 where
   pub opening : D
@@ -70,8 +70,8 @@ pub record Speech (D : Type 0) : Type 0 where
   pub answers_further : (s t : MailStore) (stamps later : List (BoxId × ℕ)) (d : D) (outcome other : Result Item SubmitFault) → is_due d ≡ true
       → is_answer (settle s stamps d outcome).out ≡ false → is_answer (settle t later (settle s stamps d outcome).dialog other).out ≡ true
 
--- A session: how it goes on, what it makes of a unit of its stream at a moment, over what is kept and beside the other connections, and what comes of a
--- unit for which it finds no memory.
+-- A session: how it goes on, and what it makes of a unit of its stream at a moment, over what is kept and beside the other connections. And what
+-- comes of a unit for which it finds no memory.
 pub record Session (D U : Type 0) : Type 0 where
   pub speech : Speech D
   pub takes : ℕ → Kept → Seats → D → U → Took D
@@ -139,7 +139,6 @@ served session desk at kept others d unit = let t = session.takes at kept others
 
 -- ---- the turn, hindered or not
 
--- the row of a unit
 abbrev pub row_of_unit : {D U : Type 0} → Session D U → Hindrance → ℕ → Kept → Seats → D → U → Row D
 row_of_unit session h at kept others d unit = row h at kept (session.starves kept d unit) (λ desk. served session desk at kept others d unit)
 

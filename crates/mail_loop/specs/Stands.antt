@@ -61,7 +61,7 @@ IsHome house (Pop unserved d) = pop.is_at_home house d ≡ true
 abbrev pub AreHome : House → Seats → Type 0
 AreHome house seats = All (IsHome house) (values_of seats)
 
--- these are the users of the other fetching clients, where a fetching client asks and memory was found for them
+-- these are the users of the other POP3 clients, where a POP3 client asks and memory was found for them
 abbrev pub AreInUse : ℕ → Seats → Seat → Result (List User) WantOfMemory → Type 0
 AreInUse conn seats (Smtp unserved d) users = Unit {0}
 AreInUse conn seats (Imap stream d) users = Unit {0}

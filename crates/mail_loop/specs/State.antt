@@ -11,9 +11,8 @@ use Rattle.imap_session.specs.declared.dialog.Dialog.{Dialog as ImapDialog}
 use Rattle.pop_session.specs.declared.dialog.Dialog.{Dialog as PopDialog}
 use Rattle.store_kept.specs.Kept.{Kept}
 
--- An open connection, by what it speaks: the bytes of a mail client's stream that were not served yet, and its dialog; how far a mail reader's
--- stream has been heard, and its dialog; the bytes of a console that are not yet a request; or the bytes of a fetching client's stream that were not served
--- yet, and its dialog.
+-- An open connection, by what it speaks. SMTP: the bytes of its stream that were not served yet, and its dialog. IMAP: how far its stream has been
+-- heard, and its dialog. A console: its bytes that are not yet a request. POP3: the bytes of its stream that were not served yet, and its dialog.
 pub data Seat : Type 0 where
   Smtp : List ℕ → Dialog → Seat
   Imap : Heard → ImapDialog → Seat

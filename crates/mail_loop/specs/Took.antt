@@ -162,8 +162,8 @@ asked_in (Read bodies) = None
 asked_in (Submit asked) = Some asked
 asked_in (Bye said) = None
 
--- the mailboxes that a user's ask takes away where it is done, of those that there are: the one that is deleted, or that is renamed with its
--- inferiors; that of INBOX is there again
+-- The mailboxes that a user's ask takes away where it is done, of those that there are. That is the one that is deleted, or that is renamed
+-- with its inferiors; that of INBOX is there again.
 abbrev pub taken_of : User → Ask → List BoxId → List BoxId
 taken_of u (asks.Rename mailbox target) boxes = if bytes_eq mailbox inbox || is_empty target then [] else filter (is_at_or_below u mailbox) boxes
 taken_of u (asks.Delete mailbox) boxes = box_of u mailbox ∷ []
@@ -223,9 +223,9 @@ abbrev pub seat_left : Bool → Seat → Option Seat
 seat_left true seat = None
 seat_left false seat = Some seat
 
--- The turns of a connection's stream are in the reply, with the mailboxes that they took away, and this is the record whose sealing failed, what
--- was counted in them, and its seat then.
-pub record Tells (h : Heard) (seats : Seats) (conn : ℕ) (reply : Reply) (kept : Kept) (failed : List JournalRecord) (counts : Counts) (seat : Seat) : Type 0 where
+-- The turns of a connection's stream are in the reply, with the mailboxes that they took away. This is the record whose sealing failed, what was
+-- counted in them, and its seat then.
+pub record TellsTurns (h : Heard) (seats : Seats) (conn : ℕ) (reply : Reply) (kept : Kept) (failed : List JournalRecord) (counts : Counts) (seat : Seat) : Type 0 where
   pub conn_is : reply.conn ≡ conn
   pub heard_is : h ≡ record { said = reply.said; state = record { kept = kept; seats = seats }; seat = seat_left reply.closes seat; aftermath = taking reply.gone; unsealed = failed; counts = counts; consoles = no_consoles }
 

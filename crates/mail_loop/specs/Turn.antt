@@ -6,9 +6,9 @@ use Rattle.verb_bytes.specs.declared.journal.JournalRecord.{JournalRecord}
 use Rattle.desk_journal.specs.Reading.{Reads}
 use Rattle.mail_loop.specs.Counts.{Counts, none_counted}
 
--- What a turn says, what is kept after it, the dialog after it, or none where the connection is closed, the mailboxes that it took away, the record
--- whose sealing failed, where one did: serving ends then; whether it could not read a text or was given another, and in how many writes it found no
--- memory.
+-- What a turn says, what is kept after it, the dialog after it, or none where the connection is closed, and the mailboxes that it took away. The
+-- record whose sealing failed, where one did: serving ends then. Whether it could not read a text or was given another, and in how many writes it
+-- found no memory.
 pub record Turn (D : Type 0) : Type 0 where
   pub said : List ℕ
   pub kept : Kept

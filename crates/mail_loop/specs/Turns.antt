@@ -1,5 +1,5 @@
--- The turns of an event, one after the other: one for each whole line of a mail client's or a fetching client's stream, and for each command, literal mark and bad line of a
--- mail reader's.
+-- The turns of an event, one after the other. One is for each whole line of an SMTP client's or a POP3 client's stream, and for each command, literal
+-- mark and bad line of an IMAP client's.
 use Rattle.std.specs.Prelude.{ℕ, List, [], ◌∷◌, ◌++◌, Option, None, Some}
 use Rattle.std.specs.Option.{option_map}
 use Rattle.verb_core.specs.declared.mailbox.BoxId.{BoxId}
@@ -27,8 +27,8 @@ use Rattle.mail_loop.specs.ConsoleTurn.{Consoles, console_turn, left_by, no_cons
 use Rattle.mail_loop.specs.declared.aftermath.Aftermath.{Aftermath}
 use Rattle.mail_loop.specs.Afterwards.{taking}
 
--- What turns leave: what they say, the state, the dialog after them or none where the connection is closed, the mailboxes that they took away, the
--- record whose sealing failed, where one did, and how many could not read a text or were given another, or found no memory in a write.
+-- What turns leave: what they say, the state, the dialog after them or none where the connection is closed. And the mailboxes that they took away,
+-- and the record whose sealing failed, where one did. And how many could not read a text or were given another, or found no memory in a write.
 pub record Outcome (D : Type 0) : Type 0 where
   pub said : List ℕ
   pub state : State
@@ -72,21 +72,21 @@ outcome_of s t = record { said = t.said; state = record { kept = t.kept; seats =
 abbrev pub turn_of : {D U : Type 0} → Session D U → ℕ → ℕ → Hindrance → State → D → U → Outcome D
 turn_of session at conn h s d unit = outcome_of s (hindered session h at s.kept (beside conn s.seats) d unit)
 
--- a turn of a mail client: a line of its stream
+-- a turn of an SMTP client: a line of its stream
 abbrev pub smtp_turn : ℕ → ℕ → Hindrance → State → Dialog → SmtpLine → Outcome Dialog
 smtp_turn at conn h s d line = turn_of smtp_session at conn h s d line
 
--- a turn of a mail reader: a command, a literal mark or a bad line of its stream
+-- a turn of an IMAP client: a command, a literal mark or a bad line of its stream
 abbrev pub imap_turn : ℕ → ℕ → Hindrance → State → ImapDialog → Next → Outcome ImapDialog
 imap_turn at conn h s d next = turn_of imap_session at conn h s d next
 
--- a turn of a fetching client: a line of its stream
+-- a turn of a POP3 client: a line of its stream
 abbrev pub pop_turn : ℕ → ℕ → Hindrance → State → PopDialog → SmtpLine → Outcome PopDialog
 pop_turn at conn h s d line = turn_of pop_session at conn h s d line
 
--- what comes of a connection's stream: what it is told, the state, its seat after that or none where it is closed, what follows for the other
--- connections, the record whose sealing failed, where one did, how many could not read a text or were given another, or found no memory in a write,
--- and what came of consoles
+-- What comes of a connection's stream: what it is told, the state, its seat after that or none where it is closed, and what follows for the other
+-- connections. And the record whose sealing failed, where one did, how many could not read a text or were given another, or found no memory in a
+-- write, and what came of consoles.
 pub record Heard : Type 0 where
   pub said : List ℕ
   pub state : State
@@ -99,15 +99,15 @@ pub record Heard : Type 0 where
 abbrev pub heard_by : {D : Type 0} → (D → Seat) → Outcome D → Heard
 heard_by seat o = record { said = o.said; state = o.state; seat = option_map seat o.dialog; aftermath = taking o.gone; unsealed = o.unsealed; counts = o.counts; consoles = no_consoles }
 
--- the turns of a mail client's lines; what follows the last line stays unserved
+-- the turns of an SMTP client's lines; what follows the last line stays unserved
 abbrev pub hears_lines : List Hindrance → ℕ → State → ℕ → Dialog → List ℕ → Heard
 hears_lines hs at s conn d stream = heard_by (Smtp (rest_of stream)) (turns (smtp_turn at conn) hs s d (smtp_lines_of stream))
 
--- the turns of a fetching client's lines, by a session that sees the others
+-- the turns of a POP3 client's lines, by a session that sees the others
 abbrev pub fetches : Session PopDialog SmtpLine → List Hindrance → ℕ → State → ℕ → PopDialog → List ℕ → Heard
 fetches session hs at s conn d stream = heard_by (Pop (rest_of stream)) (turns (turn_of session at conn) hs s d (smtp_lines_of stream))
 
--- the turns of what a mail reader's stream has given; the last is that of what is not whole yet, which says nothing
+-- the turns of what an IMAP client's stream has given; the last is that of what is not whole yet, which says nothing
 abbrev pub hears_commands : List Hindrance → ℕ → State → ℕ → ImapDialog → Stream → Heard
 hears_commands hs at s conn d stream = heard_by (Imap (emptied stream)) (turns (imap_turn at conn) hs s d (stream.said ++ NotYet ∷ []))
 

@@ -4,8 +4,8 @@ ghost use Rattle.mail_loop.specs.Afterwards.{is_quiet, taking};
 
 use crate::gone::Gone;
 
-/// What follows an event's turns for the other connections: nothing; mailboxes were taken away, and who has one of them selected is
-/// told and closed; or the store was rewound or upgraded, which is told to each mail reader, and closes it.
+/// What follows an event's turns for the other connections. Nothing; or mailboxes were taken away, and who has one of them selected
+/// is told and closed. Or the store was rewound or upgraded, which is told to each IMAP client, and closes it.
 #[derive(Drop)]
 pub enum Aftermath {
     Quiet,

@@ -1,4 +1,4 @@
-//! The bytes of a fetching client: its lines, each of which is a turn.
+//! The bytes of a POP3 client: its lines, each of which is a turn.
 ghost use Rattle.std.specs.Prelude.{◌≡◌, Bool, List, false, true};
 ghost use Rattle.console_head.specs.Request.{Stage};
 ghost use Rattle.pop_session.specs.Dialog.{is_at_home, is_free};
@@ -11,7 +11,7 @@ ghost use Rattle.mail_loop.specs.Machine.{hears};
 ghost use Rattle.mail_loop.specs.PopTurn.{in_use, pop_beside};
 ghost use Rattle.mail_loop.specs.State.{Pop as PopSeat, Seats, beside};
 ghost use Rattle.mail_loop.specs.Stands.{AreInUse};
-ghost use Rattle.mail_loop.specs.Took.{Tells, answered_alone};
+ghost use Rattle.mail_loop.specs.Took.{TellsTurns, answered_alone};
 ghost use Rattle.mail_loop.specs.Turns.{fetches};
 
 use crate::pop_turn::take_fetching;
@@ -41,7 +41,7 @@ fn serve_fetching<D: Disk + Drop>(
     ensures home { is_at_home desk.new.kept.house dialog.new ≡ true }
     ensures house { desk.new.kept.house ≡ desk.old.kept.house }
     ensures turns { (seats : Seats) → (hs : List Hindrance) × (failed : List JournalRecord) × (counts : Counts) × HaveSealed D.told desk.old desk.new failed counts ×
-        Tells (fetches (pop_beside users.now) hs at (record { kept = desk.old.kept; seats = seats }) conn dialog.old unserved.old) seats conn result desk.new.kept failed counts (PopSeat unserved.new dialog.new) }
+        TellsTurns (fetches (pop_beside users.now) hs at (record { kept = desk.old.kept; seats = seats }) conn dialog.old unserved.old) seats conn result desk.new.kept failed counts (PopSeat unserved.new dialog.new) }
 {
     seals_join::<D>();
     let mut reply = empty_reply(alloc, conn, false);
@@ -90,7 +90,7 @@ fn hear_beside<D: Disk + Drop>(
     }
 }
 
-/// Serves the bytes that came over a fetching client's connection. `found` are the users of the others; where no memory was found
+/// Serves the bytes that came over a POP3 client's connection. `found` are the users of the others; where no memory was found
 /// for them the connection is closed.
 pub fn hear_fetching<D: Disk + Drop>(
     alloc: Global,

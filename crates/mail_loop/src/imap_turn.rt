@@ -1,4 +1,4 @@
-//! The turns of a mail reader: a command, a literal mark or a bad line of its stream.
+//! The turns of an IMAP client: a command, a literal mark or a bad line of its stream.
 ghost use Rattle.std.specs.Prelude.{◌≡◌, ℕ, Ok, Err, true, false};
 ghost use Rattle.verb_core.specs.declared.conf.House.{House as TheHouse};
 ghost use Rattle.verb_core.specs.Store.{MailStore};
@@ -123,9 +123,9 @@ fn take_raw<D: Disk + Drop>(
     }
 }
 
-/// Serves one command, literal mark or bad line, and adds its answer to the reply. `current` says that the session's view is
-/// known to be of exactly what lies in its mailbox: it is set by a command that tells the view, and unset by one that reads texts or
-/// asks something of the desk.
+/// Serves one command, literal mark or bad line, and adds its answer to the reply. `current` says that the session's view is known
+/// to be of exactly what lies in its mailbox. A command that tells the view sets it; one that reads texts or asks something of the
+/// desk unsets it.
 pub fn take_next<D: Disk + Drop>(
     alloc: Global,
     desk: &mut Desk<D>,

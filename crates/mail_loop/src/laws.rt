@@ -1,4 +1,4 @@
-//! What a mail reader's turns are turns of, what licenses a hindrance, which mailbox an ask takes away, and that what was answered stays.
+//! What an IMAP client's turns are turns of, what licenses a hindrance, which mailbox an ask takes away, and that what was answered stays.
 ghost use Rattle.std.specs.Prelude.{◌≡◌, ◌++◌, ◌∷◌, [], ℕ, is_some, Err, List, Ok, Option, Some};
 ghost use Rattle.undo_base.specs.declared.keys.User.{User as TheUser};
 ghost use Rattle.verb_core.specs.declared.ask.Ask.{Ask as TheAsk};
@@ -35,16 +35,17 @@ ghost use Rattle.mail_loop.specs.Acknowledged.{AnswersLast, Course, Stretch, beh
 use time_desk::laws::{crashes_leave_states, seals_join};
 use undo_outside::Disk;
 
-/// Each command, literal mark and bad line of a mail reader's whole stream is a turn once, however the stream was cut:
-/// the turns of an event are what the stream gives with its bytes beside what it gave before.
+/// Each command, literal mark and bad line of an IMAP client's whole stream is a turn once, however the stream was cut. The turns
+/// of an event are what the stream gives with its bytes beside what it gave before.
 pub fn turns_are_of_the_whole_stream()
     ensures said { (stream bytes : List ℕ) → said_of (stream ++ bytes) ≡ said_of stream ++ (heard (emptied (heard_of stream)) bytes).said }
     ensures rest { (stream bytes : List ℕ) → emptied (heard_of (stream ++ bytes)) ≡ emptied (heard (emptied (heard_of stream)) bytes) }
 {}
 
-/// What a hindered turn of a mail client, a mail reader or a fetching client says is licensed: what nothing licenses is the turn as it should be; a record was not sealed only under a hindrance that a failed
-/// write licenses, a text was not read only under one that a failed read licenses, and was another than was stored only where the disk gave
-/// it, and a write found no memory only under one that the disk's want licenses. How many there are in a turn the desk's counts tell (`HaveSealed`).
+/// What a hindered turn of an SMTP client, an IMAP client or a POP3 client says is licensed: what nothing licenses is the turn as it should be. A
+/// record was not sealed only under a hindrance that a failed write licenses. A text was not read only under one that a failed read licenses, and was
+/// another than was stored only where the disk gave it. A write found no memory only under one that the disk's want licenses. How many there are in a
+/// turn the desk's counts tell (`HaveSealed`).
 pub fn hindrances_are_licensed()
     ensures client { (h : Hindrance) (at : ℕ) (kept : Kept) (others : Seats) (d : TheDialog) (line : TheLine) → IsLicensedRow smtp_session h at kept others d line }
     ensures fetching { (h : Hindrance) (at : ℕ) (kept : Kept) (others : Seats) (d : TheFetcher) (line : TheLine) → IsLicensedRow pop_session h at kept others d line }
@@ -61,10 +62,10 @@ pub fn asks_take_away()
 {}
 
 /// What was answered before a moment is in every image of that moment and of each later one. Serving went through a course, from a desk that
-/// holds its texts, whose disk was settled behind records that leave what it kept. Then for each step of the course: since the moment
-/// behind its turns, each image that a crash may leave stands for those records and all that were sealed by then, which leave what the
-/// machine keeps then, and maybe for more behind them, and all of them can stand. In the link's log a step's strings stand behind its event,
-/// and that behind what was done for the steps before.
+/// holds its texts, whose disk was settled behind records that leave what it kept. Then for each step of the course, since the moment behind
+/// its turns: each image that a crash may leave stands for those records and all that were sealed by then. They leave what the machine keeps
+/// then. Maybe it stands for more behind them, and all of them can stand. In the link's log a step's strings stand behind its event, and
+/// that behind what was done for the steps before.
 pub fn answered_is_kept<D: Disk>()
     ensures kept { (records : List JournalRecord) (old new : Lasting D) (course : List (Stretch D)) → IsSettled (D.told old.disk) old.gate (payloads_of records)
         → state records ≡ Some old.kept → HoldsTexts D.told old → Course D.told (at_first old.kept) old course new

@@ -20,7 +20,7 @@ fn user_beside(number: u32, connection: &Connection, conn: u32) -> Option<User>
     connection.fetching_user()
 }
 
-/// The users of the other fetching clients.
+/// The users of the other POP3 clients.
 fn users_beside(
     alloc: Global,
     connections: &BTreeMap<u32, Connection>,
@@ -37,7 +37,7 @@ fn users_beside(
     Ok(users)
 }
 
-/// The same, for a fetching client's connection. They are looked for there alone.
+/// The same, for a POP3 client's connection. They are looked for there alone.
 pub fn users_for(
     alloc: Global,
     connections: &BTreeMap<u32, Connection>,

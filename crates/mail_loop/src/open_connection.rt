@@ -18,7 +18,7 @@ ghost use Rattle.mail_loop.specs.Machine.{hears, seat_at};
 ghost use Rattle.mail_loop.specs.Afterwards.{holds_one, last_words};
 ghost use Rattle.mail_loop.specs.ImapTook.{is_not_yet};
 ghost use Rattle.mail_loop.specs.Stands.{AreInUse, IsFree, IsHome, said_of, seat_of};
-ghost use Rattle.mail_loop.specs.Took.{Tells, answered_alone};
+ghost use Rattle.mail_loop.specs.Took.{TellsTurns, answered_alone};
 
 use crate::aftermath::Aftermath;
 use crate::console_turn::hear_console;
@@ -116,7 +116,6 @@ impl Connection {
         }
     }
 
-    /// Its role.
     fn role(&self) -> Role
         ensures { result ≡ role_of self.now }
     {
@@ -152,7 +151,7 @@ impl Connection {
         }
     }
 
-    /// Whether it is a fetching client's.
+    /// Whether it is a POP3 client's.
     pub fn is_fetching(&self) -> bool
         ensures { result ≡ is_fetching self.now }
     {
@@ -199,7 +198,7 @@ fn serve_lines<D: Disk + Drop>(
     ensures free { smtp.is_free dialog.new ≡ true }
     ensures house { desk.new.kept.house ≡ desk.old.kept.house }
     ensures turns { (seats : Seats) → (hs : List Hindrance) × (failed : List JournalRecord) × (counts : Counts) × HaveSealed D.told desk.old desk.new failed counts ×
-        Tells (hears_lines hs at (record { kept = desk.old.kept; seats = seats }) conn dialog.old unserved.old) seats conn result desk.new.kept failed counts (SmtpSeat unserved.new dialog.new) }
+        TellsTurns (hears_lines hs at (record { kept = desk.old.kept; seats = seats }) conn dialog.old unserved.old) seats conn result desk.new.kept failed counts (SmtpSeat unserved.new dialog.new) }
 {
     seals_join::<D>();
     let mut reply = empty_reply(alloc, conn, false);
@@ -219,7 +218,7 @@ fn serve_lines<D: Disk + Drop>(
     }
 }
 
-/// Serves the bytes that came over a mail client's connection.
+/// Serves the bytes that came over an SMTP client's connection.
 fn hear_smtp<D: Disk + Drop>(
     alloc: Global,
     desk: &mut Desk<D>,
@@ -270,7 +269,7 @@ fn serve_commands<D: Disk + Drop>(
     ensures home { is_at_home desk.new.kept.house dialog.new ≡ true }
     ensures house { desk.new.kept.house ≡ desk.old.kept.house }
     ensures turns { (seats : Seats) → (hs : List Hindrance) × (failed : List JournalRecord) × (counts : Counts) × HaveSealed D.told desk.old desk.new failed counts ×
-        Tells (hears_commands hs at (record { kept = desk.old.kept; seats = seats }) conn dialog.old stream.old) seats conn result desk.new.kept failed counts (ImapSeat stream.new dialog.new) }
+        TellsTurns (hears_commands hs at (record { kept = desk.old.kept; seats = seats }) conn dialog.old stream.old) seats conn result desk.new.kept failed counts (ImapSeat stream.new dialog.new) }
 {
     seals_join::<D>();
     let mut reply = empty_reply(alloc, conn, false);
@@ -293,7 +292,7 @@ fn serve_commands<D: Disk + Drop>(
     }
 }
 
-/// Serves the bytes that came over a mail reader's connection.
+/// Serves the bytes that came over an IMAP client's connection.
 fn hear_imap<D: Disk + Drop>(
     alloc: Global,
     desk: &mut Desk<D>,
@@ -323,7 +322,7 @@ fn hear_imap<D: Disk + Drop>(
 }
 
 /// Serves the bytes that came over a connection. What it makes of them is told of any table of connections in which it stands, where
-/// `in_use` are the users of the other fetching clients.
+/// `in_use` are the users of the other POP3 clients.
 pub fn hear<R: Threads + Sync, D: Disk + Drop, G: Gate>(
     rt: &R,
     alloc: Global,

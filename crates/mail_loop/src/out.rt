@@ -21,7 +21,7 @@ pub enum Out {
     Bye(Text),
 }
 
-/// What a mail client's session answers.
+/// What an SMTP client's session answers.
 pub fn of_smtp(alloc: Global, out: SmtpOut) -> Out
     ensures { result ≡ smtp.of_smtp out }
 {
@@ -33,7 +33,7 @@ pub fn of_smtp(alloc: Global, out: SmtpOut) -> Out
     }
 }
 
-/// What a mail reader's session answers.
+/// What an IMAP client's session answers.
 pub fn of_imap(out: ImapOut) -> Out
     ensures { result ≡ imap.of_imap out }
 {
@@ -45,7 +45,6 @@ pub fn of_imap(out: ImapOut) -> Out
     }
 }
 
-/// One body.
 fn one_body(alloc: Global, body: Body) -> Result<Bodies0, NoMemory>
     ensures { IfOk result (λ bodies. bodies ≡ body ∷ []) }
 {
@@ -54,7 +53,7 @@ fn one_body(alloc: Global, body: Body) -> Result<Bodies0, NoMemory>
     Ok(bodies)
 }
 
-/// What a fetching client's session answers. Memory is found for all but a text that is to be read.
+/// What a POP3 client's session answers. Memory is found for all but a text that is to be read.
 pub fn of_pop(alloc: Global, out: PopOut) -> Result<Out, NoMemory>
     ensures ok { IfOk result (λ gives. gives ≡ pop.of_pop out) }
     ensures err { IfErr result (λ e. pop.is_read out ≡ true) }

@@ -1,4 +1,4 @@
-//! The turns of a fetching client: a line of its stream.
+//! The turns of a POP3 client: a line of its stream.
 ghost use Rattle.std.specs.Prelude.{◌≡◌, false, true};
 ghost use Rattle.pop_session.specs.Dialog.{AsksAsUser, IsNext, is_at_home, is_free};
 ghost use Rattle.mail_loop.specs.Asked.{HaveSealed};
@@ -47,7 +47,7 @@ fn obey<D: Disk + Drop>(
     }
 }
 
-/// Serves one line, and adds its answer to the reply. `users` are those of the other fetching clients.
+/// Serves one line, and adds its answer to the reply. `users` are those of the other POP3 clients.
 pub fn take_fetching<D: Disk + Drop>(
     alloc: Global,
     desk: &mut Desk<D>,

@@ -405,11 +405,11 @@ fn serve_each<R: Threads + Sync, L: Link, D: Disk + Drop, G: Gate>(
     Err(ServeFault::Turns)
 }
 
-/// Serves the events of a link until the end comes or a console asks it to stop, at most so many, and takes a snapshot after an
-/// event, the end too, where one is due. What was answered stays: `answered_is_kept` says so of the desks that serving goes through. A text that can't be read is told to who asked for it, and serving goes on. In each step the
-/// disk counts just as many failed reads, and writes that found no memory, as the machine has in it. Whatever came, over a disk
-/// that holds the texts as they were stored the store is at last what the items in force leave, and no UID names another message
-/// or another text than before (RFC 3501, section 2.3.1.1).
+/// Serves the events of a link until the end comes or a console asks it to stop, at most so many. It takes a snapshot after an event, the end too,
+/// where one is due. What was answered stays: `answered_is_kept` says so of the desks that serving goes through. A text that can't be read is told to
+/// who asked for it, and serving goes on. In each step the disk counts just as many failed reads, and writes that found no memory, as the machine has
+/// in it. Whatever came, over a disk that holds the texts as they were stored the store is at last what the items in force leave. No UID names
+/// another message or another text than before (RFC 3501, section 2.3.1.1).
 pub fn serve_events<R: Threads + Sync, L: Link, D: Disk + Drop, G: Gate>(
     rt: &R,
     alloc: Global,

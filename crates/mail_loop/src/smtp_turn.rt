@@ -1,4 +1,4 @@
-//! The turns of a mail client: a line of its stream.
+//! The turns of an SMTP client: a line of its stream.
 ghost use Rattle.std.specs.Prelude.{◌≡◌, ◌≤◌, ℕ, false, true};
 ghost use Rattle.smtp_lines.specs.declared.line.SmtpLine.{SmtpLine as TheLine};
 ghost use Rattle.store_kept.specs.Kept.{Kept};

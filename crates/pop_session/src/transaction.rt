@@ -71,7 +71,6 @@ fn total(maildrop: &Maildrop) -> Answer
     }
 }
 
-/// STAT.
 pub(crate) fn stat(alloc: Global, dialog: &Dialog) -> Result<PopOut, NoMemory>
     requires { IsStage dialog.now.stage }
     ensures { IfOk result (λ out. spec.stat dialog.now.stage dialog.now ≡ took out dialog.now) }

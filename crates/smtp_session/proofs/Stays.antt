@@ -18,7 +18,7 @@ use Rattle.smtp_session.specs.Bytes.{said}
 use Rattle.smtp_session.specs.Body.{body_of}
 use Rattle.smtp_session.specs.Text.{add_line, add_whole, fits}
 use Rattle.smtp_session.specs.Recipients.{put_once, is_here}
-use Rattle.smtp_session.specs.Dialog.{Turn, begin, end_text, has_recipient, obey, receive, take_text, turn, turn_in, turns, write}
+use Rattle.smtp_session.specs.Dialog.{DialogTurn, begin, end_text, has_recipient, obey, receive, take_text, turn, turn_in, turns, write}
 use Rattle.smtp_session.specs.Limits.{AsksWithin, IsSmall, IsWithin}
 use Rattle.smtp_session.proofs.Sizes.{body_small}
 use Rattle.smtp_session.proofs.Readings.{SmallReading, small_reading}
@@ -44,7 +44,7 @@ small_begin house (Some client) (Begun q to) path h k p = small (Some client) (B
 small_begin house (Some client) (Writing q to text) path h k p = small (Some client) (Writing q to text) h k
 small_begin house (Some client) (Due host) path h k p = small (Some client) (Due host) h k
 
-small_if : (b : Bool) (x y : Turn) → (b ≡ true → IsSmall x.dialog) → (b ≡ false → IsSmall y.dialog) → IsSmall (if b then x else y).dialog
+small_if : (b : Bool) (x y : DialogTurn) → (b ≡ true → IsSmall x.dialog) → (b ≡ false → IsSmall y.dialog) → IsSmall (if b then x else y).dialog
 small_if true x y f g = f refl
 small_if false x y f g = g refl
 
@@ -125,7 +125,7 @@ small_turn_in house conf at client (Writing path to text) line h k = small_text 
 pub small_turn : (house : House) (conf : Conf) (at : ℕ) (d : Dialog) (line : SmtpLine) → IsSmall d → IsSmall (turn house conf at d line).dialog
 small_turn house conf at d line s = small_turn_in house conf at d.client d.transaction line s.client s.transaction
 
-asks_if : (b : Bool) (x y : Turn) → AsksWithin x.out → AsksWithin y.out → AsksWithin (if b then x else y).out
+asks_if : (b : Bool) (x y : DialogTurn) → AsksWithin x.out → AsksWithin y.out → AsksWithin (if b then x else y).out
 asks_if true x y f g = f
 asks_if false x y f g = g
 
@@ -183,12 +183,12 @@ pub asks_turn : (house : House) (conf : Conf) (at : ℕ) (d : Dialog) (line : Sm
 asks_turn house conf at d line h m s = asks_turn_in house conf at d d.transaction line h m s.client s.transaction
 
 -- what holds of a turn's dialog, and of the dialog before it, holds of the dialog after a call
-pub after_call : {E : Type 0} (result : Result SmtpOut E) (now : Turn) (old new : Dialog) → IfOk result (λ out. now ≡ turns out new)
+pub after_call : {E : Type 0} (result : Result SmtpOut E) (now : DialogTurn) (old new : Dialog) → IfOk result (λ out. now ≡ turns out new)
     → OnErr result (new ≡ old) → IsSmall now.dialog → IsSmall old → IsSmall new
-after_call (Ok out) now old new ok err s o = subst (λ (t : Turn). IsSmall t.dialog) ok s
+after_call (Ok out) now old new ok err s o = subst (λ (t : DialogTurn). IsSmall t.dialog) ok s
 after_call (Err e) now old new ok err s o = subst (λ (d : Dialog). IsSmall d) (sym err) o
 
-pub asks_of_call : {E : Type 0} (result : Result SmtpOut E) (now : Turn) (new : Dialog) → IfOk result (λ out. now ≡ turns out new)
+pub asks_of_call : {E : Type 0} (result : Result SmtpOut E) (now : DialogTurn) (new : Dialog) → IfOk result (λ out. now ≡ turns out new)
     → AsksWithin now.out → IfOk result AsksWithin
-asks_of_call (Ok out) now new ok s = subst (λ (t : Turn). AsksWithin t.out) ok s
+asks_of_call (Ok out) now new ok s = subst (λ (t : DialogTurn). AsksWithin t.out) ok s
 asks_of_call (Err e) now new ok s = tt

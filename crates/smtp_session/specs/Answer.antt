@@ -1,4 +1,4 @@
--- The texts of answers to a mail client (RFC 5321, 4.2.3), by the host's name.
+-- The texts of answers to an SMTP client (RFC 5321, 4.2.3), by the host's name.
 use Rattle.std.specs.Prelude.{ℕ, List, ◌++◌, codes, decimal}
 use Rattle.smtp_lines.specs.declared.command.SmtpRefused.{SmtpRefused}
 use Rattle.smtp_lines.specs.declared.command.SmtpRefused.TheVariants.{Long, Unknown, NotDone, Argument, Parameter, NoMemory as WithoutMemory}

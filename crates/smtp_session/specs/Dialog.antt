@@ -1,4 +1,4 @@
--- The dialog with a mail client (RFC 5321, 3.3 and 4.1.4), as a function of its state, the house, the configuration,
+-- The dialog with an SMTP client (RFC 5321, 3.3 and 4.1.4), as a function of its state, the house, the configuration,
 -- the moment and one line. It gives what is said, or asked of the store, and the state after it.
 use Rattle.std.specs.Prelude.{ℕ, Bool, true, false, List, [], ◌∷◌, length, nat_le, codes, bytes_eq, unwrap_or, option_map, Option, None, Some, Result, Ok, Err, if◌then◌else◌}
 use Rattle.std.specs.Str.{str_to_ascii_lowercase}
@@ -26,18 +26,18 @@ use Rattle.smtp_session.specs.Recipients.{put_once, is_here}
 use Rattle.smtp_session.specs.Text.{add_line}
 
 -- what comes of a line, and the dialog after it
-pub record Turn : Type 0 where
+pub record DialogTurn : Type 0 where
   pub out : SmtpOut
   pub dialog : Dialog
 
-abbrev pub turns : SmtpOut → Dialog → Turn
+abbrev pub turns : SmtpOut → Dialog → DialogTurn
 turns out d = record { out = out; dialog = d }
 
 abbrev pub with_transaction : Dialog → Transaction → Dialog
 with_transaction d transaction = record { client = d.client; transaction = transaction }
 
 -- an answer, and the dialog goes on
-abbrev pub says : House → Answer → Dialog → Turn
+abbrev pub says : House → Answer → Dialog → DialogTurn
 says house answer d = turns (Say (answer_text house.host answer)) d
 
 -- the connection was made just now
@@ -45,16 +45,16 @@ abbrev pub opening : Dialog
 opening = record { client = None; transaction = Idle }
 
 -- HELO and EHLO clear the transaction (RFC 5321, 4.1.4)
-abbrev pub greet : House → List ℕ → Turn
+abbrev pub greet : House → List ℕ → DialogTurn
 greet house client = says house Host (record { client = Some client; transaction = Idle })
 
 -- MAIL wants a greeting, and no transaction
-abbrev pub begin : House → Option (List ℕ) → Transaction → List ℕ → Turn
+abbrev pub begin : House → Option (List ℕ) → Transaction → List ℕ → DialogTurn
 begin house (Some client) Idle path = says house Done (record { client = Some client; transaction = Begun path [] })
 begin house client transaction path = says house BadSequence (record { client = client; transaction = transaction })
 
 -- RCPT wants a transaction with fewer than 1,000 recipients, and a recipient who is here
-abbrev pub receive : House → Dialog → Transaction → List ℕ → Bool → Turn
+abbrev pub receive : House → Dialog → Transaction → List ℕ → Bool → DialogTurn
 receive house d (Begun path to) local known =
     if nat_le 1000 (length to) then says house TooManyRecipients d
     else (if known then says house Done (with_transaction d (Begun path (put_once (str_to_ascii_lowercase local) to)))
@@ -78,12 +78,12 @@ with_text (Writing path to text) = Writing path to text
 with_text (Due host) = Due host
 
 -- DATA wants a recipient
-abbrev pub write : House → Dialog → Turn
+abbrev pub write : House → Dialog → DialogTurn
 write house d =
     if has_recipient d.transaction then says house Begin (with_transaction d (with_text d.transaction)) else says house BadSequence d
 
 -- a line outside a text
-abbrev pub obey : House → Conf → Dialog → Reading → Turn
+abbrev pub obey : House → Conf → Dialog → Reading → DialogTurn
 obey house conf d (Ok (Helo client)) = greet house client
 obey house conf d (Ok (Ehlo client)) = greet house client
 obey house conf d (Ok (Mail path)) = begin house d.client d.transaction path
@@ -96,25 +96,25 @@ obey house conf d (Ok Quit) = turns (Bye (answer_text house.host Closing)) d
 obey house conf d (Err refused) = says house (line_refused refused) d
 
 -- the end of a text: delivery of its body is asked, and the outcome is due; or the text was too large
-abbrev pub end_text : House → Dialog → List ℕ → List (List ℕ) → Option (List ℕ) → Turn
+abbrev pub end_text : House → Dialog → List ℕ → List (List ℕ) → Option (List ℕ) → DialogTurn
 end_text house d path to None = says house TextTooLarge (with_transaction d Idle)
 end_text house d path to (Some body) = turns (Asks (Deliver path to body)) (with_transaction d (Due house.host))
 
 -- a line of a text
-abbrev pub take_text : House → ℕ → Dialog → List ℕ → List (List ℕ) → Option (List ℕ) → SmtpLine → Turn
+abbrev pub take_text : House → ℕ → Dialog → List ℕ → List (List ℕ) → Option (List ℕ) → SmtpLine → DialogTurn
 take_text house at d path to text line =
     if bytes_eq line.bytes (codes ".") then end_text house d path to (option_map (body_of house.host at (unwrap_or d.client []) path) text)
     else turns Nothing (with_transaction d (Writing path to (add_line text line)))
 
 -- one line, by the state of the transaction
-abbrev pub turn_in : House → Conf → ℕ → Dialog → Transaction → SmtpLine → Turn
+abbrev pub turn_in : House → Conf → ℕ → Dialog → Transaction → SmtpLine → DialogTurn
 turn_in house conf at d (Writing path to text) line = take_text house at d path to text line
 turn_in house conf at d Idle line = obey house conf d (command_of line)
 turn_in house conf at d (Begun path to) line = obey house conf d (command_of line)
 turn_in house conf at d (Due host) line = obey house conf d (command_of line)
 
 -- one line
-abbrev pub turn : House → Conf → ℕ → Dialog → SmtpLine → Turn
+abbrev pub turn : House → Conf → ℕ → Dialog → SmtpLine → DialogTurn
 turn house conf at d line = turn_in house conf at d d.transaction line
 
 abbrev pub is_due_in : Transaction → Bool
@@ -156,7 +156,7 @@ host_due (Begun path to) = []
 host_due (Writing path to text) = []
 
 -- the outcome of what was asked: the transaction is over, whatever it is
-abbrev pub settle : Dialog → Result Item SubmitFault → Turn
+abbrev pub settle : Dialog → Result Item SubmitFault → DialogTurn
 settle d outcome = turns (told (host_due d.transaction) outcome) (with_transaction d Idle)
 
 -- the refusals that a delivery can meet: a full mailbox, numbers that are used up, want of memory

@@ -1,4 +1,4 @@
-//! Answers to a mail client.
+//! Answers to an SMTP client.
 ghost use Rattle.std.specs.Prelude.{◌≡◌, ℕ, ◌++◌, List, IfOk, codes, decimal};
 ghost use Rattle.smtp_session.specs.Bytes.{said};
 ghost use Rattle.smtp_session.specs.Answer.{answer_text, delivery_refused};
@@ -17,7 +17,7 @@ pub enum SmtpOut {
     Bye(Text),
 }
 
-/// What a mail client is answered (RFC 5321, section 4.2.3).
+/// What an SMTP client is answered (RFC 5321, section 4.2.3).
 #[derive(Clone, Copy, Debug, PartialEq, Eq)]
 pub enum Answer {
     Ready,

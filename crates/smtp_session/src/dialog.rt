@@ -16,7 +16,7 @@ use std::alloc::Global;
 use undo_base::{LAST_MOMENT, Name, NoMemory, Text};
 use verb_core::{Conf, House};
 
-/// The transaction of a mail client. A text that is too large is none; `Due` has the host's name.
+/// The transaction of an SMTP client. A text that is too large is none; `Due` has the host's name.
 #[derive(Drop)]
 pub enum Transaction {
     Idle,

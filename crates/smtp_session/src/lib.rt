@@ -1,9 +1,9 @@
-//! The dialog with a mail client: a function of its state and one line.
+//! The dialog with an SMTP client: a function of its state and one line.
 //!
-//! `session` is the session with its two calls, `dialog` its state, `commands` what each command does to it and `ending` how a
-//! transaction ends; `recipients` and `draft` are its parts, `answer` and `body` write texts; `laws` says what the definitions
-//! mean, `kept` how much is kept. What carries the crate: `SmtpSession::take` and
-//! `done` are the functions `turn` and `settle` of specs/Dialog.antt.
+//! `session` is the session with its two calls, `dialog` its state. `commands` has what each command does to it, `ending` how a
+//! transaction ends. `recipients` and `draft` are its parts, `answer` and `body` write texts. `laws` says what the definitions
+//! mean, `kept` how much is kept. What carries the crate: `SmtpSession::take` and `done` are the functions `turn` and `settle` of
+//! specs/Dialog.antt.
 #![tactic(auto)]
 
 mod answer;

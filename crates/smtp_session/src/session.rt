@@ -1,4 +1,4 @@
-//! The session of a mail client.
+//! The session of an SMTP client.
 ghost use Rattle.std.specs.Prelude.{◌≡◌, ◌≤◌, IsTrue, IfOk, OnErr, false, true};
 ghost use Rattle.verb_core.specs.Store.{is_house};
 ghost use Rattle.smtp_session.specs.Dialog.{is_due, is_writing, opening, settle, turn, turns};
@@ -14,7 +14,7 @@ use std::marker::Model;
 use undo_base::{LAST_MOMENT, NoMemory};
 use verb_core::{Conf, House, Item, SubmitFault};
 
-/// The session of a mail client from its greeting to its last answer.
+/// The session of an SMTP client from its greeting to its last answer.
 #[derive(Drop)]
 pub struct SmtpSession {
     dialog: Dialog,

@@ -5,6 +5,7 @@ use Rattle.repair_desk.specs.Repairs.{position}
 use Rattle.console_session.specs.declared.reply.After.TheVariants.{Closes, Stops}
 use Rattle.console_session.specs.Answers.{answer, body_answer, body_found, box_answer, conf_answer, is_text_recorded, plan_answer, status_answer, timeline_answer}
 use Rattle.console_session.proofs.Turns.{serves_found, serves_route}
+use Rattle.time_desk.specs.Replaying.{plan_reads}
 use Rattle.console_session.proofs.session.follow.Goals as goal
 
 pub returns-in-Status : goal.returns-in-Status
@@ -24,7 +25,7 @@ returns-in-Box g c =
 
 pub returns-in-Body : goal.returns-in-Body
 returns-in-Body g c =
-    serves_found g.D.Disk.told c.seals_join.ensures.still c.args.at c.args.route (route.Body c.in-Body.number) (is_text_recorded c.args.desk.now.kept.timeline c.in-Body.number)
+    serves_found g.D.Disk.told c.seals_join.ensures.still c.args.at c.args.route (route.Body c.in-Body.number) (is_text_recorded c.args.desk.now.kept c.in-Body.number)
     (body_found c.args.desk.now.kept.timeline c.in-Body.number)
     (body_answer c.args.desk.now.kept c.in-Body.number) c.args.desk.now c.tell_body.new.desk c.tell_body.result c.in-Body.is c.tell_body.ensures.still (λ h. refl) c.tell_body.ensures.told
 
@@ -40,5 +41,5 @@ returns-in-Stop g c =
 
 pub returns-in-Plan : goal.returns-in-Plan
 returns-in-Plan g c =
-    serves_found g.D.Disk.told c.seals_join.ensures.still c.args.at c.args.route (route.Plan c.in-Plan.point) true (position c.args.desk.now.kept.timeline c.in-Plan.point)
+    serves_found g.D.Disk.told c.seals_join.ensures.still c.args.at c.args.route (route.Plan c.in-Plan.point) (plan_reads c.args.desk.now.kept c.in-Plan.point) (position c.args.desk.now.kept.timeline c.in-Plan.point)
     (plan_answer c.args.desk.now.kept c.in-Plan.point) c.args.desk.now c.tell_plan.new.desk c.tell_plan.result c.in-Plan.is c.tell_plan.ensures.still (λ h. refl) c.tell_plan.ensures.told

@@ -2,7 +2,7 @@ use Rattle.std.proofs.Common.{None, Ok, [], false, subst, true}
 use Rattle.imap_stream.specs.Commands.{Heard}
 use Rattle.mail_loop.specs.State.{Imap, State}
 use Rattle.mail_loop.specs.Turns.{hears_commands, hears_seat}
-use Rattle.mail_loop.specs.Took.{Tells}
+use Rattle.mail_loop.specs.Took.{TellsTurns}
 use Rattle.mail_loop.specs.Counts.{none_counted}
 use Rattle.mail_loop.specs.Asked.{HaveSealed}
 use Rattle.mail_loop.proofs.Sealed.{unsealed}
@@ -19,7 +19,7 @@ returns-in-Ok-clause-heard g c seats =
     going (HaveSealed g.D.Disk.told c.args.desk.now new.desk) c.args.at kept seats c.args.conn (Imap c.args.stream.now d) c.args.bytes.now c.serve_commands.result c.going_on.result new.desk.kept
     (Imap new.stream new.dialog) c.going_on.ensures false t.0 (Ok None) t.1 t.2 t.3
     (heard_alone (hears_seat t.0 (Ok None) c.args.at s c.args.conn (Imap c.args.stream.now d) c.args.bytes.now) seats c.args.conn c.serve_commands.result new.desk.kept t.1 t.2 (Imap new.stream new.dialog)
-    (subst (λ (stream : Heard). Tells (hears_commands t.0 c.args.at s c.args.conn d stream) seats c.args.conn c.serve_commands.result new.desk.kept t.1 t.2 (Imap new.stream new.dialog)) c.in-Ok.ensures.ok t.4))
+    (subst (λ (stream : Heard). TellsTurns (hears_commands t.0 c.args.at s c.args.conn d stream) seats c.args.conn c.serve_commands.result new.desk.kept t.1 t.2 (Imap new.stream new.dialog)) c.in-Ok.ensures.ok t.4))
 
 pub returns-in-Err-clause-heard : goal.returns-in-Err-clause-heard
 returns-in-Err-clause-heard g c seats =

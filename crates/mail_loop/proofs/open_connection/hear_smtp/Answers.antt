@@ -1,7 +1,7 @@
 use Rattle.std.proofs.Common.{List, None, Ok, [], false, subst, true, ℕ}
 use Rattle.mail_loop.specs.State.{Smtp, State}
 use Rattle.mail_loop.specs.Turns.{hears_lines, hears_seat}
-use Rattle.mail_loop.specs.Took.{Tells}
+use Rattle.mail_loop.specs.Took.{TellsTurns}
 use Rattle.mail_loop.specs.Counts.{none_counted}
 use Rattle.mail_loop.specs.Asked.{HaveSealed}
 use Rattle.mail_loop.proofs.Sealed.{unsealed}
@@ -18,7 +18,7 @@ returns-in-Ok-clause-heard g c seats =
     going (HaveSealed g.D.Disk.told c.args.desk.now new.desk) c.args.at kept seats c.args.conn (Smtp c.args.unserved.now d) c.args.bytes.now c.serve_lines.result c.going_on.result new.desk.kept
     (Smtp new.unserved new.dialog) c.going_on.ensures false t.0 (Ok None) t.1 t.2 t.3
     (heard_alone (hears_seat t.0 (Ok None) c.args.at s c.args.conn (Smtp c.args.unserved.now d) c.args.bytes.now) seats c.args.conn c.serve_lines.result new.desk.kept t.1 t.2 (Smtp new.unserved new.dialog)
-    (subst (λ (stream : List ℕ). Tells (hears_lines t.0 c.args.at s c.args.conn d stream) seats c.args.conn c.serve_lines.result new.desk.kept t.1 t.2 (Smtp new.unserved new.dialog)) c.in-Ok.ensures.ok t.4))
+    (subst (λ (stream : List ℕ). TellsTurns (hears_lines t.0 c.args.at s c.args.conn d stream) seats c.args.conn c.serve_lines.result new.desk.kept t.1 t.2 (Smtp new.unserved new.dialog)) c.in-Ok.ensures.ok t.4))
 
 pub returns-in-Err-clause-heard : goal.returns-in-Err-clause-heard
 returns-in-Err-clause-heard g c seats =

@@ -28,9 +28,9 @@ use Rattle.console_session.specs.declared.reply.After.{After}
 use Rattle.console_session.specs.declared.reply.After.TheVariants.{Waits, Closes, Stops, Fails, Rewinds, Upgrades}
 use Rattle.console_session.specs.Answers.{Answer, answer, answer_text, body_answer, box_answer, conf_answer, plan_answer, pointless, refused, status_answer, timeline_answer, uncycled}
 
--- what a turn says, what is kept after it, what follows, the record that was sealed in it, or that could not be, whether a text could not be
--- read, or another was read than was stored, and in how many writes no memory was found
-pub record Turn : Type 0 where
+-- What a turn says, what is kept after it and what follows. The record that was sealed in it, or that could not be; and whether a text could
+-- not be read, or was read wrong. And in how many writes no memory was found.
+pub record ConsoleTurn : Type 0 where
   pub said : List ℕ
   pub kept : Kept
   pub after : After
@@ -40,21 +40,21 @@ pub record Turn : Type 0 where
   pub starved : ℕ
 
 -- nothing is said yet, and the connection stays open
-abbrev pub waits : Kept → Turn
+abbrev pub waits : Kept → ConsoleTurn
 waits kept = record { said = []; kept = kept; after = Waits; sealed = []; unsealed = []; reads = none_read; starved = 0 }
 
 -- an answer that changes nothing
-abbrev pub tells : Answer → After → Kept → Turn
+abbrev pub tells : Answer → After → Kept → ConsoleTurn
 tells a after kept = record { said = answer_text a; kept = kept; after = after; sealed = []; unsealed = []; reads = none_read; starved = 0 }
 
 -- too few numbers are left
-abbrev pub numberless : Kept → Turn
+abbrev pub numberless : Kept → ConsoleTurn
 numberless kept = tells (answer 507 (numbers_data kept.next)) Closes kept
 
 -- ---- acts
 
 -- an act is done, and answered with its number
-abbrev pub done : ℕ → Kept → Act → Turn
+abbrev pub done : ℕ → Kept → Act → ConsoleTurn
 done at kept act = record {
   said = answer_text (answer 200 (number_data kept.next));
   kept = performed kept (act_item kept.next at act);
@@ -66,7 +66,7 @@ done at kept act = record {
 }
 
 -- a record could not be sealed, and nothing is kept of it
-abbrev pub failed : Kept → JournalRecord → Turn
+abbrev pub failed : Kept → JournalRecord → ConsoleTurn
 failed kept what = record {
   said = answer_text (answer 500 (error_data word.Disk));
   kept = kept;
@@ -78,17 +78,17 @@ failed kept what = record {
 }
 
 -- what becomes of an act for which a number is left, or that none is left
-abbrev pub numbered : Kept → Turn → Turn
+abbrev pub numbered : Kept → ConsoleTurn → ConsoleTurn
 numbered kept t = if nat_lt kept.next 4194304 then t else numberless kept
 
 -- ---- cycles and withdrawals
 
 -- one is told by its report, and changes nothing
-abbrev pub reported : Kept → Report → Turn
+abbrev pub reported : Kept → Report → ConsoleTurn
 reported kept report = tells (answer 200 (report_data kept.house report)) Closes kept
 
 -- one is done: its record is sealed, what it leaves is kept, and it is answered with its report
-abbrev pub rewound : Kept → JournalRecord → (Cycled → Kept) → Cycled → Turn
+abbrev pub rewound : Kept → JournalRecord → (Cycled → Kept) → Cycled → ConsoleTurn
 rewound kept what left due = record {
   said = answer_text (answer 200 (report_data kept.house due.report));
   kept = left due;
@@ -99,24 +99,24 @@ rewound kept what left due = record {
   starved = 0;
 }
 
--- what becomes of a request for one, by what is due to it: a report is told again; or what it goes back to is not there, and this is
--- told; or too few numbers are left; or it is done
-abbrev pub gone_back : Kept → Answer → JournalRecord → (Cycled → Kept) → Due → Turn
+-- What becomes of a request for one, by what is due to it. A report is told again; or what it goes back to is not there, and this is
+-- told; or too few numbers are left; or it is done.
+abbrev pub gone_back : Kept → Answer → JournalRecord → (Cycled → Kept) → Due → ConsoleTurn
 gone_back kept missing what left (Repeats report) = reported kept report
 gone_back kept missing what left NoPoint = tells missing Closes kept
 gone_back kept missing what left NoNumbers = numberless kept
 gone_back kept missing what left (IsDue due) = rewound kept what left due
 
 -- of a request for a cycle
-abbrev pub cycled : ℕ → Kept → CycleAsk → Due → Turn
+abbrev pub cycled : ℕ → Kept → CycleAsk → Due → ConsoleTurn
 cycled at kept ask due = gone_back kept (pointless ask.point) (Cycle kept.next at ask) (after_cycle kept ask) due
 
 -- of a request for a withdrawal
-abbrev pub withdrawn : ℕ → Kept → List ℕ → ℕ → Due → Turn
+abbrev pub withdrawn : ℕ → Kept → List ℕ → ℕ → Due → ConsoleTurn
 withdrawn at kept key of due = gone_back kept (uncycled of) (Withdraw kept.next at key of) (after_withdrawal kept key) due
 
 -- what becomes of a cycle that is only tried: it is told, and not done
-abbrev pub tried : Kept → CycleAsk → Due → Turn
+abbrev pub tried : Kept → CycleAsk → Due → ConsoleTurn
 tried kept ask (Repeats report) = reported kept report
 tried kept ask NoPoint = tells (pointless ask.point) Closes kept
 tried kept ask NoNumbers = numberless kept
@@ -125,7 +125,7 @@ tried kept ask (IsDue due) = reported kept due.report
 -- ---- snapshots
 
 -- a snapshot is taken, and answered with how many items it holds
-abbrev pub kept_as_it_is : Kept → Turn
+abbrev pub kept_as_it_is : Kept → ConsoleTurn
 kept_as_it_is kept = record {
   said = answer_text (answer 200 (items_data (length kept.timeline)));
   kept = snapshotted kept;
@@ -139,7 +139,7 @@ kept_as_it_is kept = record {
 -- ---- upgrades
 
 -- the store is upgraded, and that is answered
-abbrev pub upgrade_done : ℕ → Kept → Turn
+abbrev pub upgrade_done : ℕ → Kept → ConsoleTurn
 upgrade_done at kept = record {
   said = answer_text (answer 200 upgraded_data);
   kept = upgraded kept;
@@ -151,13 +151,13 @@ upgrade_done at kept = record {
 }
 
 -- the same where it was not upgraded before; else nothing changes, and the answer is the same
-abbrev pub upgraded_once : ℕ → Kept → Turn
+abbrev pub upgraded_once : ℕ → Kept → ConsoleTurn
 upgraded_once at kept = if kept.deep then tells (answer 200 upgraded_data) Closes kept else upgrade_done at kept
 
 -- ---- turns
 
 -- the answer to a route at a moment
-abbrev pub routed : ℕ → Kept → Route → Turn
+abbrev pub routed : ℕ → Kept → Route → ConsoleTurn
 routed at kept route.Status = tells (status_answer kept) Closes kept
 routed at kept (route.Timeline start) = tells (timeline_answer kept start) Closes kept
 routed at kept (route.Box user name) = tells (box_answer kept user name) Closes kept
@@ -173,7 +173,7 @@ routed at kept route.Upgrade = upgraded_once at kept
 routed at kept (route.Withdraw key of) = withdrawn at kept key of (withdraw_due kept at key of)
 
 -- the turn of what is asked at a moment
-abbrev pub turn : ℕ → Kept → Result Asked HttpRefused → Turn
+abbrev pub turn : ℕ → Kept → Result Asked HttpRefused → ConsoleTurn
 turn at kept (Ok NotYet) = waits kept
 turn at kept (Ok (Whole route)) = routed at kept route
 turn at kept (Err why) = tells (refused why) Closes kept
