@@ -1,6 +1,6 @@
 -- Lists of words by their number.
 use Rattle.std.proofs.Common.{◌≡◌, ℕ, List, [], ◌∷◌, map, length, get_or, ◌<◌, ◌≤◌, Some, None, arith, refl}
-use Rattle.command_words.specs.Usage.{with_ports, some_port, by_number}
+use Rattle.command_words.specs.Usage.{with_two, with_ports, some_port, by_number}
 
 -- five words
 pub five : {X : Type 0} (f : X → List ℕ) (xs : List X) (a c d e : X) → 5 ≤ length xs → length xs < 6
@@ -27,12 +27,21 @@ six f (x ∷ s ∷ y ∷ z ∷ w ∷ []) a c d e g l u p q r t o = absurd (omega
 six f (x ∷ s ∷ y ∷ z ∷ w ∷ v ∷ []) a c d e g l u p q r t o = rw (p, q, r, t, o) refl
 six f (x ∷ s ∷ y ∷ z ∷ w ∷ v ∷ k ∷ rest) a c d e g l u p q r t o = absurd (omega arith)
 
--- three or four
-pub between : {X : Type 0} (f : X → List ℕ) (xs : List X) → 3 ≤ length xs → length xs < 5 → None ≡ by_number (map f xs)
+-- three words
+pub three : {X : Type 0} (f : X → List ℕ) (xs : List X) (a c : X) → 3 ≤ length xs → length xs < 4 → a ≡ get_or xs 0 a → c ≡ get_or xs 2 c
+    → with_two (f a) (f c) ≡ by_number (map f xs)
+three f [] a c l u p q = absurd (omega arith)
+three f (x ∷ []) a c l u p q = absurd (omega arith)
+three f (x ∷ s ∷ []) a c l u p q = absurd (omega arith)
+three f (x ∷ s ∷ y ∷ []) a c l u p q = rw (p, q) refl
+three f (x ∷ s ∷ y ∷ z ∷ rest) a c l u p q = absurd (omega arith)
+
+-- four
+pub between : {X : Type 0} (f : X → List ℕ) (xs : List X) → 4 ≤ length xs → length xs < 5 → None ≡ by_number (map f xs)
 between f [] l u = absurd (omega arith)
 between f (x ∷ []) l u = absurd (omega arith)
 between f (x ∷ s ∷ []) l u = absurd (omega arith)
-between f (x ∷ s ∷ y ∷ []) l u = refl
+between f (x ∷ s ∷ y ∷ []) l u = absurd (omega arith)
 between f (x ∷ s ∷ y ∷ z ∷ []) l u = refl
 between f (x ∷ s ∷ y ∷ z ∷ w ∷ rest) l u = absurd (omega arith)
 

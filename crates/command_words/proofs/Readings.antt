@@ -5,13 +5,13 @@ use Rattle.std.proofs.lemmas.Bool.{false≢true, true≢false, not-true, and_par
 use Rattle.std.proofs.lemmas.Slice.Eq.{bytes_eq-Decides}
 use Rattle.clap.specs.Words.{Text, takes}
 use Rattle.command_words.specs.declared.commands.Command.{Command}
-use Rattle.command_words.specs.declared.commands.Command.TheVariants.{Init, Script, Play, Grow, Check}
+use Rattle.command_words.specs.declared.commands.Command.TheVariants.{Init, Script, Play, Grow, Check, Cut, Audit}
 use Rattle.command_words.specs.declared.commands.WordsRefused.{WordsRefused}
 use Rattle.command_words.specs.declared.commands.WordsRefused.TheVariants.{NoMemory}
-use Rattle.command_words.specs.Numbers.{port_of, rounds_of}
+use Rattle.command_words.specs.Numbers.{point_of, port_of, rounds_of}
 use Rattle.command_words.specs.Program.{program}
-use Rattle.command_words.specs.Usage.{is_word, alone, with_one, at_ports, with_ports, some_port, by_number, command_of}
-use Rattle.command_words.proofs.Takes.{IsWord, takes-play, takes-init, takes-script, takes-check, takes-grow, takes-serve, takes-serve_pop}
+use Rattle.command_words.specs.Usage.{is_word, alone, with_one, with_two, at_ports, with_ports, some_port, by_number, command_of}
+use Rattle.command_words.proofs.Takes.{IsWord, takes-play, takes-init, takes-script, takes-check, takes-grow, takes-cut, takes-audit, takes-serve, takes-serve_pop}
 
 abbrev Takes : List Text → Type 0
 Takes words = takes program words ≡ true
@@ -49,13 +49,21 @@ takes_one name a c h e =
     let P : Type 0 = Takes (name ∷ a ∷ []) in
     let is : (text : List ℕ) → Takes (text ∷ a ∷ []) → bytes_eq name text ≡ true → P = λ text takes t. subst (λ n. Takes (n ∷ a ∷ [])) (named name text t) takes in
     let grown : Option Command = option_map (λ rounds. Grow rounds) (rounds_of a) in
-    let fourth : Option Command = cond (bytes_eq name (codes "grow")) grown None in
+    let fifth : Option Command = cond (bytes_eq name (codes "grow")) grown None in
+    let fourth : Option Command = cond (bytes_eq name (codes "audit")) (Some Audit) fifth in
     let third : Option Command = cond (bytes_eq name (codes "check")) (Some Check) fourth in
     let other : Option Command = cond (bytes_eq name (codes "script")) (Some Script) third in
     one_of P (bytes_eq name (codes "init")) (Some Init) other c (is (codes "init") (takes-init a h))
     (one_of P (bytes_eq name (codes "script")) (Some Script) third c (is (codes "script") (takes-script a h))
     (one_of P (bytes_eq name (codes "check")) (Some Check) fourth c (is (codes "check") (takes-check a h))
-    (one_of P (bytes_eq name (codes "grow")) grown None c (is (codes "grow") (takes-grow a h)) (no_command P c)))) e
+    (one_of P (bytes_eq name (codes "audit")) (Some Audit) fifth c (is (codes "audit") (takes-audit a h))
+    (one_of P (bytes_eq name (codes "grow")) grown None c (is (codes "grow") (takes-grow a h)) (no_command P c))))) e
+
+takes_two : (name a b : List ℕ) (c : Command) → IsWord a → IsWord b → with_two name b ≡ Some c → Takes (name ∷ a ∷ b ∷ [])
+takes_two name a b c h i e =
+    one_of (Takes (name ∷ a ∷ b ∷ [])) (bytes_eq name (codes "cut")) (option_map (λ point. Cut point) (point_of b)) None c
+    (λ t. subst (λ n. Takes (n ∷ a ∷ b ∷ [])) (named name (codes "cut") t) (takes-cut a b h i))
+    (no_command _ c) e
 
 takes_ports : (name smtp imap http : List ℕ) (behind : List Text) (pop : Option (Option ℕ)) (c : Command) → Takes (codes "serve" ∷ behind) → with_ports name smtp imap http pop ≡ Some c → Takes (name ∷ behind)
 takes_ports name smtp imap http behind pop c takes e =
@@ -70,7 +78,11 @@ takes_words (name ∷ a ∷ []) c all e =
     let (p, q) = and_parts _ _ all in
     let (r, s) = and_parts _ _ q in
     takes_one name a c (word a r) e
-takes_words (name ∷ a ∷ b ∷ []) c all e = no_command _ c e
+takes_words (name ∷ a ∷ b ∷ []) c all e =
+    let (p, q) = and_parts _ _ all in
+    let (r, s) = and_parts _ _ q in
+    let (t, u) = and_parts _ _ s in
+    takes_two name a b c (word a r) (word b t) e
 takes_words (name ∷ a ∷ b ∷ d ∷ []) c all e = no_command _ c e
 takes_words (name ∷ store ∷ smtp ∷ imap ∷ http ∷ []) c all e =
     let (p, q) = and_parts _ _ all in

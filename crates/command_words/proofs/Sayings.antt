@@ -4,12 +4,12 @@ use Rattle.std.specs.List.{list_all}
 use Rattle.std.specs.Fmt.{decimal}
 use Rattle.std.proofs.lemmas.Bool.{and_parts, false≢true}
 use Rattle.command_words.specs.declared.commands.Command.{Command}
-use Rattle.command_words.specs.declared.commands.Command.TheVariants.{Init, Serve, Script, Play, Grow, Check}
-use Rattle.command_words.specs.Numbers.{port_of, rounds_of}
+use Rattle.command_words.specs.declared.commands.Command.TheVariants.{Init, Serve, Script, Play, Grow, Check, Cut, Audit}
+use Rattle.command_words.specs.Numbers.{point_of, port_of, rounds_of}
 use Rattle.command_words.specs.Spelling.{SaysStore, IsPort, Says, words_of}
-use Rattle.command_words.specs.Usage.{is_word, alone, with_one, at_ports, with_ports, some_port, by_number, command_of}
+use Rattle.command_words.specs.Usage.{is_word, alone, with_one, with_two, at_ports, with_ports, some_port, by_number, command_of}
 use Rattle.command_words.proofs.Readings.{named, no_command}
-use Rattle.command_words.proofs.Written.{number_to, number_from, word_decimal}
+use Rattle.command_words.proofs.Written.{number_to, number_from, point_from, word_decimal, word_point}
 
 -- ---- from what is read to what is said
 
@@ -39,13 +39,28 @@ says_one name a c h e =
     let P : Type 0 = Says (name ∷ a ∷ []) c in
     let here : (text : List ℕ) → bytes_eq name text ≡ true → SaysStore (name ∷ a ∷ []) text = λ text t. (a, h, ap (λ n. n ∷ a ∷ []) (sym (named name text t))) in
     let grown : Option Command = option_map (λ rounds. Grow rounds) (rounds_of a) in
-    let fourth : Option Command = cond (bytes_eq name (codes "grow")) grown None in
+    let fifth : Option Command = cond (bytes_eq name (codes "grow")) grown None in
+    let fourth : Option Command = cond (bytes_eq name (codes "audit")) (Some Audit) fifth in
     let third : Option Command = cond (bytes_eq name (codes "check")) (Some Check) fourth in
     let other : Option Command = cond (bytes_eq name (codes "script")) (Some Script) third in
     either P (bytes_eq name (codes "init")) (Some Init) other c (λ t is. subst (Says (name ∷ a ∷ [])) (same_command Init c is) (here (codes "init") t))
     (either P (bytes_eq name (codes "script")) (Some Script) third c (λ t is. subst (Says (name ∷ a ∷ [])) (same_command Script c is) (here (codes "script") t))
     (either P (bytes_eq name (codes "check")) (Some Check) fourth c (λ t is. subst (Says (name ∷ a ∷ [])) (same_command Check c is) (here (codes "check") t))
-    (either P (bytes_eq name (codes "grow")) grown None c (λ t is. says_rounds name a c (rounds_of a) (sym (named name (codes "grow") t)) refl is) (no_command P c)))) e
+    (either P (bytes_eq name (codes "audit")) (Some Audit) fifth c (λ t is. subst (Says (name ∷ a ∷ [])) (same_command Audit c is) (here (codes "audit") t))
+    (either P (bytes_eq name (codes "grow")) grown None c (λ t is. says_rounds name a c (rounds_of a) (sym (named name (codes "grow") t)) refl is) (no_command P c))))) e
+
+says_point : (name store a : List ℕ) (c : Command) (o : Option ℕ) → is_word store ≡ true → name ≡ codes "cut" → point_of a ≡ o → option_map (λ point. Cut point) o ≡ Some c
+    → Says (name ∷ store ∷ a ∷ []) c
+says_point name store a c None w n r e = no_command _ c e
+says_point name store a c (Some point) w n r e =
+    let (low, high, text) = number_to 0 4294967295 point a (omega arith) r in
+    subst (Says (name ∷ store ∷ a ∷ [])) (same_command (Cut point) c e) (store, w, high, rw (n, text) refl)
+
+says_two : (name store a : List ℕ) (c : Command) → is_word store ≡ true → with_two name a ≡ Some c → Says (name ∷ store ∷ a ∷ []) c
+says_two name store a c w e =
+    either (Says (name ∷ store ∷ a ∷ []) c) (bytes_eq name (codes "cut")) (option_map (λ point. Cut point) (point_of a)) None c
+    (λ t is. says_point name store a c (point_of a) w (sym (named name (codes "cut") t)) refl is)
+    (no_command _ c) e
 
 -- a port that is read
 port_to : (n : ℕ) (text : List ℕ) → port_of text ≡ Some n → IsPort n × (text ≡ decimal n)
@@ -99,7 +114,10 @@ says_words (name ∷ a ∷ []) c all e =
     let (p, q) = and_parts _ _ all in
     let (r, s) = and_parts _ _ q in
     says_one name a c r e
-says_words (name ∷ a ∷ b ∷ []) c all e = no_command _ c e
+says_words (name ∷ a ∷ b ∷ []) c all e =
+    let (p, q) = and_parts _ _ all in
+    let (r, s) = and_parts _ _ q in
+    says_two name a b c r e
 says_words (name ∷ a ∷ b ∷ d ∷ []) c all e = no_command _ c e
 says_words (name ∷ store ∷ smtp ∷ imap ∷ http ∷ []) c all e =
     let (p, q) = and_parts _ _ all in
@@ -131,7 +149,7 @@ word_port : (n : ℕ) → IsPort n → is_word (decimal n) ≡ true
 word_port n p = word_decimal n p.0 (omega (arith, p.1))
 
 port_from : (n : ℕ) → IsPort n → port_of (decimal n) ≡ Some n
-port_from n p = number_from 1 65535 n (omega arith) (omega arith) p.0 p.1
+port_from n p = number_from 1 65535 n p.0 (omega arith) p.0 p.1
 
 pub said_is_read : (words : List (List ℕ)) (c : Command) → Says words c → command_of words ≡ Some c
 said_is_read words Init (store, w, e) = subst (λ ws. Reads ws Init) (sym e) (rw w refl)
@@ -144,5 +162,8 @@ said_is_read words (Serve s i h (Some p)) (store, w, ps, pi, ph, pp, e) =
 said_is_read words Script (store, w, e) = subst (λ ws. Reads ws Script) (sym e) (rw w refl)
 said_is_read words Play e = subst (λ ws. Reads ws Play) (sym e) refl
 said_is_read words (Grow n) (low, high, e) =
-    subst (λ ws. Reads ws (Grow n)) (sym e) (rw (word_decimal n (omega (arith, low)) (omega (arith, high)), number_from 3 100000 n (omega arith) (omega arith) low high) refl)
+    subst (λ ws. Reads ws (Grow n)) (sym e) (rw (word_decimal n (omega (arith, low)) (omega (arith, high)), number_from 3 100000 n (omega (arith, low)) (omega arith) low high) refl)
 said_is_read words Check (store, w, e) = subst (λ ws. Reads ws Check) (sym e) (rw w refl)
+said_is_read words (Cut n) (store, w, high, e) =
+    subst (λ ws. Reads ws (Cut n)) (sym e) (rw (w, word_point n high, point_from n high) refl)
+said_is_read words Audit (store, w, e) = subst (λ ws. Reads ws Audit) (sym e) (rw w refl)

@@ -41,6 +41,17 @@ unfolding clap_on_literals
 takes-check [] h = absurd h
 takes-check (b ∷ t) h = simp h
 
+pub takes-audit : (a : Text) → IsWord a → takes program (codes "audit" ∷ a ∷ []) ≡ true
+unfolding clap_on_literals
+takes-audit [] h = absurd h
+takes-audit (b ∷ t) h = simp h
+
+pub takes-cut : (a b : Text) → IsWord a → IsWord b → takes program (codes "cut" ∷ a ∷ b ∷ []) ≡ true
+unfolding clap_on_literals
+takes-cut [] b h i = absurd h
+takes-cut (c ∷ a) [] h i = absurd i
+takes-cut (c ∷ a) (d ∷ b) h i = simp (h, i)
+
 -- ---- `serve`, which takes four words or five: one step of the walk after the other
 
 -- the command `serve` as it is built

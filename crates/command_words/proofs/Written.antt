@@ -1,10 +1,10 @@
 -- Numbers are read of what is written of them, and of nothing else.
-use Rattle.std.proofs.Common.{◌≡◌, inl, inr, ℕ, List, [], ◌∷◌, Bool, true, false, ◌&&◌, ◌==◌, ◌||◌, not, cond, ◌^◌, ◌<◌, ◌≤◌, length, slice_index, get_or, nat_le, arith, refl, Some, None, is_some, unwrap_or, sym, ap, subst, ◌∙◌}
+use Rattle.std.proofs.Common.{◌≡◌, inl, inr, ℕ, zero, suc, List, [], ◌∷◌, Bool, true, false, ◌&&◌, ◌==◌, ◌||◌, not, cond, ◌^◌, ◌<◌, ◌≤◌, length, slice_index, get_or, nat_le, arith, refl, Some, None, is_some, unwrap_or, sym, ap, subst, ◌∙◌}
 use Rattle.std.specs.List.{list_all}
 use Rattle.std.specs.Char.{is_ascii_digit}
 use Rattle.std.specs.Fmt.{decimal}
 use Rattle.std.proofs.lemmas.Bool.{and_parts, and_from, or_cases, or_right, leb-true, le-leb, eqb-true, eq-eqb, ne_eqb, not-true, not_from_false, false≢true, true≢false}
-use Rattle.std.proofs.lemmas.Fmt.{decimal-digits_value, digits_decimal, digits_value-decimal, decimal_nonempty, first_decimal, length-decimal-le}
+use Rattle.std.proofs.lemmas.Fmt.{decimal_digit, decimal-digits_value, digits_decimal, digits_value-decimal, decimal_nonempty, first_decimal, length-decimal-le}
 use Rattle.undo_base.specs.Digits.{is_decimal, number_of, number_between}
 use Rattle.command_words.specs.Usage.{is_word}
 use Rattle.command_words.proofs.Digits.{own, digits_in}
@@ -44,12 +44,12 @@ decimal_is_decimal n low small =
     (digits_decimal own n small)
 
 -- what is written is read
-pub number_from : (low high n : ℕ) → 1 ≤ low → high < 2 ^ 32 → low ≤ n → n ≤ high → number_between low high (decimal n) ≡ Some n
+pub number_from : (low high n : ℕ) → 1 ≤ n → high < 2 ^ 32 → low ≤ n → n ≤ high → number_between low high (decimal n) ≡ Some n
 number_from low high n one small above below =
     let fits : n < 2 ^ 64 = omega (arith, small, below) in
     let same : number_of (decimal n) ≡ n = digits_value-decimal own n fits in
     let few : length (decimal n) ≤ 10 = length-decimal-le 10 n (omega arith) (omega arith) (omega arith) in
-    rw (decimal_is_decimal n (omega (arith, one, above)) fits, le-leb (length (decimal n)) 12 (omega arith), same, le-leb low n above, le-leb n high below) refl
+    rw (decimal_is_decimal n one fits, le-leb (length (decimal n)) 12 (omega arith), same, le-leb low n above, le-leb n high below) refl
 
 -- what is written is a word
 pub word_decimal : (n : ℕ) → 1 ≤ n → n < 2 ^ 64 → is_word (decimal n) ≡ true
@@ -57,3 +57,12 @@ word_decimal n low small = go (decimal n) (first_decimal n low small) where
   go : (text : List ℕ) → 48 < get_or text 0 0 → is_word text ≡ true
   go [] h = absurd (omega arith)
   go (b ∷ t) h = not_from_false (b == 45) (ne_eqb b 45 (λ e. omega (arith, e, h)))
+
+-- the same of any number of four bytes, also of 0
+pub point_from : (n : ℕ) → n ≤ 4294967295 → number_between 0 4294967295 (decimal n) ≡ Some n
+point_from zero high = subst (λ (t : List ℕ). number_between 0 4294967295 t ≡ Some 0) (sym (decimal_digit 0 (omega arith))) refl
+point_from (suc n) high = number_from 0 4294967295 (suc n) (omega arith) (omega arith) (omega arith) high
+
+pub word_point : (n : ℕ) → n ≤ 4294967295 → is_word (decimal n) ≡ true
+word_point zero high = subst (λ (t : List ℕ). is_word t ≡ true) (sym (decimal_digit 0 (omega arith))) refl
+word_point (suc n) high = word_decimal (suc n) (omega arith) (omega (arith, high))

@@ -44,7 +44,7 @@ first_half =
     serve_shape)
     (taking (codes "script") (codes "STORE" ∷ []))
 
--- a program with the last three
+-- a program with three more
 abbrev pub second_half : App → App
 second_half a =
     with_subcommand (with_subcommand (with_subcommand a
@@ -52,6 +52,13 @@ second_half a =
     (taking (codes "grow") (codes "ROUNDS" ∷ [])))
     (taking (codes "check") (codes "STORE" ∷ []))
 
--- all six
+-- a program with the last two
+abbrev pub last_two : App → App
+last_two a =
+    with_subcommand (with_subcommand a
+    (taking (codes "cut") (codes "STORE" ∷ codes "POINT" ∷ [])))
+    (taking (codes "audit") (codes "STORE" ∷ []))
+
+-- all eight
 abbrev pub program : App
-program = second_half first_half
+program = last_two (second_half first_half)

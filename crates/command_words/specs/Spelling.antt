@@ -2,7 +2,7 @@
 use Rattle.std.specs.Prelude.{◌≡◌, ◌≤◌, ℕ, true, List, [], ◌∷◌, codes, Option, Some, None, IfSome}
 use Rattle.std.specs.Fmt.{decimal}
 use Rattle.command_words.specs.declared.commands.Command.{Command}
-use Rattle.command_words.specs.declared.commands.Command.TheVariants.{Init, Serve, Script, Play, Grow, Check}
+use Rattle.command_words.specs.declared.commands.Command.TheVariants.{Init, Serve, Script, Play, Grow, Check, Cut, Audit}
 use Rattle.command_words.specs.Usage.{is_word}
 
 -- a command that has a store alone, under this name
@@ -28,3 +28,5 @@ Says words Script = SaysStore words (codes "script")
 Says words Play = words ≡ codes "play" ∷ []
 Says words (Grow rounds) = (3 ≤ rounds) × (rounds ≤ 100000) × (words ≡ codes "grow" ∷ decimal rounds ∷ [])
 Says words Check = SaysStore words (codes "check")
+Says words (Cut point) = (store : List ℕ) × (is_word store ≡ true) × (point ≤ 4294967295) × (words ≡ codes "cut" ∷ store ∷ decimal point ∷ [])
+Says words Audit = SaysStore words (codes "audit")

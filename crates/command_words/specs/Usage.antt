@@ -1,9 +1,10 @@
--- The words that the program takes: `init STORE`, `serve STORE SMTP IMAP HTTP [POP]`, `script STORE`, `play`, `grow ROUNDS`, `check STORE`.
+-- The words that the program takes: `init STORE`, `serve STORE SMTP IMAP HTTP [POP]`, `script STORE`, `play`, `grow ROUNDS`, `check STORE`, `cut STORE POINT`,
+-- `audit STORE`.
 use Rattle.std.specs.Prelude.{ℕ, Bool, false, not, ◌==◌, List, [], ◌∷◌, codes, bytes_eq, Option, Some, None, option_map, option_and_then, if◌then◌else◌}
 use Rattle.std.specs.List.{list_all}
 use Rattle.command_words.specs.declared.commands.Command.{Command}
-use Rattle.command_words.specs.declared.commands.Command.TheVariants.{Init, Serve, Script, Play, Grow, Check}
-use Rattle.command_words.specs.Numbers.{port_of, rounds_of}
+use Rattle.command_words.specs.declared.commands.Command.TheVariants.{Init, Serve, Script, Play, Grow, Check, Cut, Audit}
+use Rattle.command_words.specs.Numbers.{point_of, port_of, rounds_of}
 
 -- a word that may stand: it is not empty and does not begin with '-'
 abbrev pub is_word : List ℕ → Bool
@@ -20,8 +21,13 @@ with_one name word =
     if bytes_eq name (codes "init") then Some Init
     else if bytes_eq name (codes "script") then Some Script
     else if bytes_eq name (codes "check") then Some Check
+    else if bytes_eq name (codes "audit") then Some Audit
     else if bytes_eq name (codes "grow") then option_map (λ rounds. Grow rounds) (rounds_of word)
     else None
+
+-- a command, its store, and one word more
+abbrev pub with_two : List ℕ → List ℕ → Option Command
+with_two name word = if bytes_eq name (codes "cut") then option_map (λ point. Cut point) (point_of word) else None
 
 -- the command `serve` at its ports, of which that of POP3 may be none
 abbrev pub at_ports : Option ℕ → Option ℕ → Option ℕ → Option (Option ℕ) → Option Command
@@ -40,7 +46,7 @@ abbrev pub by_number : List (List ℕ) → Option Command
 by_number [] = None
 by_number (name ∷ []) = alone name
 by_number (name ∷ word ∷ []) = with_one name word
-by_number (name ∷ a ∷ b ∷ []) = None
+by_number (name ∷ store ∷ word ∷ []) = with_two name word
 by_number (name ∷ a ∷ b ∷ c ∷ []) = None
 by_number (name ∷ store ∷ smtp ∷ imap ∷ http ∷ []) = with_ports name smtp imap http (Some None)
 by_number (name ∷ store ∷ smtp ∷ imap ∷ http ∷ pop ∷ []) = with_ports name smtp imap http (some_port pop)
@@ -64,6 +70,8 @@ store_in words Script = second words
 store_in words Play = None
 store_in words (Grow rounds) = None
 store_in words Check = second words
+store_in words (Cut point) = second words
+store_in words Audit = second words
 
 -- the word STORE, where words are of a shape that has one
 abbrev pub store_of : List (List ℕ) → Option (List ℕ)
@@ -77,6 +85,8 @@ ports_in Script = None
 ports_in Play = None
 ports_in (Grow rounds) = None
 ports_in Check = None
+ports_in (Cut point) = None
+ports_in Audit = None
 
 -- the ports of `serve`, where words are of its shape
 abbrev pub ports_of : List (List ℕ) → Option (ℕ × ℕ × ℕ)
@@ -90,6 +100,8 @@ pop_in Script = None
 pop_in Play = None
 pop_in (Grow rounds) = None
 pop_in Check = None
+pop_in (Cut point) = None
+pop_in Audit = None
 
 -- the port for POP3 of `serve`, where words are of its shape and name one
 abbrev pub pop_of : List (List ℕ) → Option ℕ

@@ -23,6 +23,12 @@ pub enum Command {
     },
     /// Opens the store and tells its counts.
     Check,
+    /// Opens the store and writes a new one, whose base is what the items up to this one left, or none where it is 0.
+    Cut {
+        point: u32,
+    },
+    /// Opens the store and tells whether its records are true.
+    Audit,
 }
 
 /// Why words are no command.

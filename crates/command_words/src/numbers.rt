@@ -1,6 +1,6 @@
 //! Numbers in digits.
 ghost use Rattle.std.specs.Prelude.{◌≡◌};
-ghost use Rattle.command_words.specs.Numbers.{port_of, rounds_of};
+ghost use Rattle.command_words.specs.Numbers.{point_of, port_of, rounds_of};
 
 use undo_base::read_number;
 
@@ -16,4 +16,11 @@ pub fn read_rounds(word: &str) -> Option<u32>
     ensures { result ≡ rounds_of word.now }
 {
     read_number(3, 100000, word.as_bytes()).map(|rounds| rounds as u32)
+}
+
+/// The number of an item, or 0.
+pub fn read_point(word: &str) -> Option<u32>
+    ensures { result ≡ point_of word.now }
+{
+    read_number(0, 4294967295, word.as_bytes()).map(|point| point as u32)
 }

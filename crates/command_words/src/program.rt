@@ -5,7 +5,7 @@ ghost use Rattle.clap.specs.Words.{app_of, shape_of, takes, with_rule, with_subc
 ghost use Rattle.clap.specs.declared.error.kind.ErrorKind.TheVariants.{OutOfMemory};
 ghost use Rattle.clap.specs.declared.builder.command.Command.TheViews.{out-Command};
 ghost use Rattle.command_words.specs.declared.commands.WordsRefused.TheVariants.{Usage};
-ghost use Rattle.command_words.specs.Program.{word_rule, last_rule, taking, bare_program, serve_shape, second_half};
+ghost use Rattle.command_words.specs.Program.{word_rule, last_rule, taking, bare_program, serve_shape, second_half, last_two};
 ghost use Rattle.command_words.specs.Program as spec;
 
 use crate::commands::WordsRefused;
@@ -67,6 +67,20 @@ fn with_one<'a>(alloc: Global, name: &'a str, id: &'a str) -> Result<Command<'a>
     with_word(alloc, alone(alloc, name), id)
 }
 
+/// A command that takes two.
+fn with_both<'a>(
+    alloc: Global,
+    name: &'a str,
+    id: &'a str,
+    other: &'a str,
+) -> Result<Command<'a>, AllocError>
+    ensures shape { IfOk result (λ c. shape_of c ≡ taking name.entry.now (id.entry.now ∷ other.entry.now ∷ [])) }
+    ensures plain { IfOk result (λ c. (out-Command c).has_globals ≡ false) }
+{
+    let command = with_word(alloc, alone(alloc, name), id)?;
+    with_word(alloc, command, other)
+}
+
 /// The command `serve`.
 fn serve<'a>(alloc: Global) -> Result<Command<'a>, AllocError>
     ensures shape { IfOk result (λ c. shape_of c ≡ serve_shape) }
@@ -124,21 +138,32 @@ fn first_half<'a>(alloc: Global) -> Result<Command<'a>, AllocError>
     add_one(alloc, command, "script", "STORE")
 }
 
-/// The program with its last two subcommands too.
-fn add_rest<'a>(alloc: Global, command: Command<'a>) -> Result<Command<'a>, AllocError>
+/// A program with three subcommands more.
+fn second_half<'a>(alloc: Global, command: Command<'a>) -> Result<Command<'a>, AllocError>
     requires { (out-Command command).has_globals ≡ false }
-    ensures { IfOk result (λ c. app_of c ≡ second_half (app_of command.entry)) }
+    ensures shape { IfOk result (λ c. app_of c ≡ second_half (app_of command.entry)) }
+    ensures plain { IfOk result (λ c. (out-Command c).has_globals ≡ false) }
 {
     let command = with_command(command, alone(alloc, "play"))?;
     let command = add_one(alloc, command, "grow", "ROUNDS")?;
     add_one(alloc, command, "check", "STORE")
 }
 
+/// A program with the last two subcommands too.
+fn last_two<'a>(alloc: Global, command: Command<'a>) -> Result<Command<'a>, AllocError>
+    requires { (out-Command command).has_globals ≡ false }
+    ensures { IfOk result (λ c. app_of c ≡ last_two (app_of command.entry)) }
+{
+    let command = with_command(command, with_both(alloc, "cut", "STORE", "POINT")?)?;
+    add_one(alloc, command, "audit", "STORE")
+}
+
 /// The program with its subcommands.
 fn program<'a>(alloc: Global) -> Result<Command<'a>, AllocError>
     ensures { IfOk result (λ c. app_of c ≡ spec.program) }
 {
-    add_rest(alloc, first_half(alloc)?)
+    let command = second_half(alloc, first_half(alloc)?)?;
+    last_two(alloc, command)
 }
 
 /// A refusal of `clap` for another cause than memory means that the words are of no stated shape.

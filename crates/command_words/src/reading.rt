@@ -51,6 +51,8 @@ fn store_in(words: &[String], command: Command) -> Option<&String>
         Command::Play => None,
         Command::Grow { rounds: _ } => None,
         Command::Check => second(words),
+        Command::Cut { point: _ } => second(words),
+        Command::Audit => second(words),
     }
 }
 
@@ -80,6 +82,8 @@ fn ports_in(command: Command) -> Option<(u16, u16, u16)>
         Command::Play => None,
         Command::Grow { rounds: _ } => None,
         Command::Check => None,
+        Command::Cut { point: _ } => None,
+        Command::Audit => None,
     }
 }
 
@@ -105,6 +109,8 @@ fn pop_in(command: Command) -> Option<u16>
         Command::Play => None,
         Command::Grow { rounds: _ } => None,
         Command::Check => None,
+        Command::Cut { point: _ } => None,
+        Command::Audit => None,
     }
 }
 

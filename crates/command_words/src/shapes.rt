@@ -1,10 +1,10 @@
 //! The command that words are, by the words themselves.
 ghost use Rattle.std.specs.Prelude.{◌≡◌, Option, map, string_bytes};
 ghost use Rattle.std.specs.List.{list_all};
-ghost use Rattle.command_words.specs.Usage.{is_word, alone, with_one, at_ports, with_ports, some_port, by_number, command_of};
+ghost use Rattle.command_words.specs.Usage.{is_word, alone, with_one, with_two, at_ports, with_ports, some_port, by_number, command_of};
 
 use crate::commands::Command;
-use crate::numbers::{read_port, read_rounds};
+use crate::numbers::{read_point, read_port, read_rounds};
 
 /// Whether a word may stand: it is not empty and does not begin with '-'.
 fn is_word(word: &String) -> bool
@@ -48,8 +48,20 @@ fn with_one(name: &str, word: &str) -> Option<Command>
         Some(Command::Script)
     } else if name == "check" {
         Some(Command::Check)
+    } else if name == "audit" {
+        Some(Command::Audit)
     } else if name == "grow" {
         read_rounds(word).map(|rounds| Command::Grow { rounds })
+    } else {
+        None
+    }
+}
+
+fn with_two(name: &str, word: &str) -> Option<Command>
+    ensures { result ≡ with_two name.now word.now }
+{
+    if name == "cut" {
+        read_point(word).map(|point| Command::Cut { point })
     } else {
         None
     }
@@ -102,6 +114,7 @@ fn by_number(words: &[String]) -> Option<Command>
     match words {
         [name] => alone(name),
         [name, word] => with_one(name, word),
+        [name, _, word] => with_two(name, word),
         [name, _, smtp, imap, http] => with_ports(name, smtp, imap, http, Some(None)),
         [name, _, smtp, imap, http, pop] => with_ports(name, smtp, imap, http, some_port(pop)),
         _ => None,

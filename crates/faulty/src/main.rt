@@ -3,11 +3,11 @@
 //!
 //! usage: faulty [store=HEX] [disk=LIST] [link=LIST] [text=LIST] [out=LIST] [image=WRITES+BYTES] [gate=COUNT] WORD ..
 //!
-//! LISTs are ordinals of calls that fail, from 1, with commas between; `store` has the bytes of the store at the start, none if it
-//! is left out. The WORDs are those of undomail. Standard input is its text, and of `serve` it is a script of the link's events.
-//! What is printed: what was written to the output; the transcript of the link, and `missed N` for each string that was missed;
-//! with `gate`, `passed N TIMES` for each item of a number below the count that passed the gate of a cycle's workers; `status N`; and `store HEX`, the store with all that was written to it, or with `image` what a crash leaves where so many
-//! writes are done, and of the next one so many bytes.
+//! LISTs are ordinals of calls that fail, from 1, with commas between; `store` has the bytes of the store at the start, none if it is left out. The
+//! WORDs are those of undomail. Standard input is its text, and of `serve` it is a script of the link's events. What is printed: what was written to
+//! the output; the transcript of the link, and `missed N` for each string that was missed. With `gate`, `passed N TIMES` for each item of a number
+//! below the count that passed the gate of a cycle's workers. `status N`; and `store HEX`, the store with all that was written to it. With `image` it
+//! is what a crash leaves where so many writes are done, and of the next one so many bytes.
 #![tactic(auto)]
 
 mod asked;

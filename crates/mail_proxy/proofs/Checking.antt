@@ -1,5 +1,8 @@
 -- What opening a store leaves of its disk.
-use Rattle.std.proofs.Common.{◌≡◌, ◌≢◌, ℕ, Result, Ok, Err}
+use Rattle.std.proofs.Common.{◌≡◌, ◌≢◌, ◌∙◌, List, ℕ, Result, Ok, Err}
+use Rattle.undo_outside.proofs.Moments.{joined}
+use Rattle.desk_journal.specs.Lasting.{Lasting}
+use Rattle.desk_journal.specs.Reading.{IsStill}
 use Rattle.std.specs.Prelude.{IsErrOf}
 use Rattle.undo_outside.specs.Disk.{DiskTold, IsHonest}
 use Rattle.store_kept.specs.Kept.{Kept}
@@ -31,4 +34,22 @@ only_read told truth disk new r status starts none honest =
       any_moment = moments;
       reads = moments.each (told new).content (now.counts_now (told disk).moment (told new).content moments.later now.content_is_image);
       same = λ other. starts.content honest (none other);
+    }
+
+-- where a store was opened and then read, nothing was written
+pub only_read_on : {D : Type 0} (told : D → DiskTold) (truth : (d : D) → (told d).honest → IsHonest (told d)) (disk : D) (first last : Lasting D) (status : ℕ)
+    → Starts (told disk) (told first.disk) (Ok (first.kept, first.gate)) → IsStill told first last → (told disk).honest → IsOnlyRead status (told disk) (told last.disk)
+only_read_on told truth disk first last status starts still honest =
+    let reads = still.reads.reads in
+    let opened = starts.honest honest in
+    let moments = starts.any_moment honest in
+    let now = truth first.disk opened in
+    let since = reads.any_moment opened in
+    let old = λ (c : List ℕ) (image : (told first.disk).images c). moments.each c (now.counts_now (told disk).moment c moments.later image) in
+    let is_there = truth last.disk (reads.honest opened) in
+    record {
+      size = reads.size ∙ starts.size;
+      any_moment = joined (told disk) (told first.disk) (told last.disk) (told disk).images (told first.disk).images (told disk).images moments since (λ c image. image) old;
+      reads = old (told last.disk).content (reads.images opened (told last.disk).content is_there.content_is_image);
+      same = λ other. reads.content opened ∙ starts.content honest (opened_well (first.kept, first.gate));
     }

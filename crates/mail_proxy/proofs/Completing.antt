@@ -5,11 +5,12 @@ use Rattle.undo_outside.specs.Disk.{ReadFailed, WriteFailed}
 use Rattle.time_desk.specs.declared.fault.StartFault.TheVariants as start
 use Rattle.time_desk.specs.Opening.{Starts}
 use Rattle.command_words.specs.declared.commands.Command.{Command}
-use Rattle.command_words.specs.declared.commands.Command.TheVariants.{Init, Serve, Script, Play, Grow, Check}
+use Rattle.command_words.specs.declared.commands.Command.TheVariants.{Init, Serve, Script, Play, Grow, Check, Cut, Audit}
 use Rattle.mail_proxy.specs.Causes.{Comes, EndsFailed, FailsAtFirst, Outside}
 use Rattle.mail_proxy.specs.Completing.{EndsInTime, NoneFailed}
 use Rattle.mail_proxy.specs.Due.{IsHindered}
-use Rattle.mail_proxy.specs.Reading.{ReadFails, WriteFails}
+use Rattle.base_cut.specs.Writing.{WriteFails}
+use Rattle.mail_proxy.specs.Reading.{ReadFails}
 
 read_rose : (old new : SourceTold) → ReadFails old new → Rose old.faults new.faults
 read_rose old new (before, text, gave, failed) = subst (λ n. Rose n new.faults) gave.faults failed.1
@@ -40,10 +41,14 @@ module _ (old new : Outside) (none : NoneFailed old new) where
   at_first (Some Play) failed = absurd failed
   at_first (Some (Grow rounds)) failed = absurd failed
   at_first (Some Check) failed = starts failed
+  at_first (Some (Cut point)) failed = starts failed
+  at_first (Some Audit) failed = starts failed
 
   no_fault : (command : Option Command) → EndsFailed command old new → ⊥
   no_fault command (inl failed) = at_first command failed.0
-  no_fault command (inr (is, desk, failed, reads, line)) = no_write failed
+  no_fault command (inr (inl (is, desk, failed, reads, line))) = no_write failed
+  no_fault command (inr (inr (is, desk, inl (failed, line)))) = none.reads failed.0
+  no_fault command (inr (inr (is, desk, inr (rose, short)))) = none.reads rose
 
   pub completes : (command : Option Command) (s k : ℕ) → Comes command old new s → EndsInTime command old new → (s ≡ k) ⊎ IsHindered s → (s ≡ k) ⊎ (s ≡ 8)
   completes command s k c time (inl e) = inl e
@@ -51,5 +56,5 @@ module _ (old new : Outside) (none : NoneFailed old new) where
   completes command s k c time (inr (inr (inl e))) = absurd (none.text (read_rose old.text new.text (c.read_fault e).1))
   completes command s k c time (inr (inr (inr (inl e)))) = absurd (time (c.too_many e))
   completes command s k c time (inr (inr (inr (inr (inl e))))) = inr e
-  completes command s k c time (inr (inr (inr (inr (inr (inl e)))))) = let failed = (c.write_fault e).2 in absurd (none.out (write_rose old.out new.out failed.0 failed.1))
+  completes command s k c time (inr (inr (inr (inr (inr (inl e)))))) = let failed = (c.write_fault e).2 in absurd (none.out (write_rose old.out new.out failed.0 failed.2))
   completes command s k c time (inr (inr (inr (inr (inr (inr e)))))) = absurd (none.link (c.link_fault e).2.0)

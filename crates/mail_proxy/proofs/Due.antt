@@ -1,5 +1,5 @@
 -- Which status is due comes, unless a call failed or memory was wanted.
-use Rattle.std.proofs.Common.{◌≡◌, ◌≢◌, ◌⊎◌, ℕ, Bool, true, false, List, length, MatchBool, Option, None, Some, Result, Ok, Err, refl, ap, subst, sym, ◌∙◌, inl, inr, arith, nat_lt}
+use Rattle.std.proofs.Common.{◌≡◌, ◌≢◌, ◌⊎◌, ℕ, Bool, is_some, if◌then◌else◌, true, false, List, length, MatchBool, Option, None, Some, Result, Ok, Err, refl, ap, subst, sym, ◌∙◌, inl, inr, arith, nat_lt}
 use Rattle.std.specs.Prelude.{IsErrOf}
 use Rattle.undo_outside.specs.declared.event.Event.{Event}
 use Rattle.undo_outside.specs.declared.event.LinkNote.{LinkNote}
@@ -7,6 +7,7 @@ use Rattle.undo_outside.specs.declared.fault.Fault.{Fault}
 use Rattle.undo_outside.specs.declared.fault.Fault.TheVariants.{Failed, NoMemory as SinkStarved}
 use Rattle.undo_outside.specs.Calls.{LinkTold, SourceTold, SinkTold}
 use Rattle.undo_outside.specs.Disk.{DiskTold}
+use Rattle.verb_bytes.specs.declared.journal.JournalRecord.{JournalRecord}
 use Rattle.verb_core.specs.declared.conf.Conf.{Conf}
 use Rattle.verb_core.specs.declared.conf.House.{House}
 use Rattle.store_kept.specs.Kept.{Kept}
@@ -21,21 +22,27 @@ use Rattle.time_desk.specs.declared.fault.StartFault.TheVariants as start
 use Rattle.desk_journal.specs.Making.{Makes}
 use Rattle.time_desk.specs.Opening.{OpensAs, Starts}
 use Rattle.command_words.specs.declared.commands.Command.{Command}
-use Rattle.command_words.specs.declared.commands.Command.TheVariants.{Init, Serve, Script, Play, Grow, Check}
+use Rattle.command_words.specs.declared.commands.Command.TheVariants.{Init, Serve, Script, Play, Grow, Check, Cut, Audit}
 use Rattle.command_words.specs.Usage.{command_of}
-use Rattle.mail_proxy.specs.Answers.{Answers, Does, Shows, first_fault, status_after}
+use Rattle.mail_proxy.specs.Answers.{Answers, Does}
+use Rattle.mail_proxy.specs.Shows.{Shows, first_fault, status_after}
 use Rattle.mail_proxy.specs.Causes.{IsBadText, IsBadFor, IsBadScript}
 use Rattle.mail_proxy.specs.Profiles.{uses_text}
-use Rattle.mail_proxy.specs.Due.{IsDue, IsDueFor, IsDueInit, IsDueStore, IsHindered}
+use Rattle.mail_proxy.specs.Due.{IsDue, IsDueFor, IsDueInit, IsDueStore, IsHindered, due_of}
 use Rattle.mail_proxy.specs.Growing.{GrowsBy, TellsGrown}
 use Rattle.mail_proxy.specs.Init.{Configures, Inits, made_status}
 use Rattle.mail_proxy.specs.Lines.{too_long, usage}
 use Rattle.mail_proxy.specs.Opening.{OpensNone}
 use Rattle.mail_proxy.specs.Check.{Checks, TellsCounts}
-use Rattle.mail_proxy.specs.Script.{Played, Plays, PlaysScript, PlaysText, RunsScript, Scripts, Tells, status_of}
+use Rattle.mail_proxy.specs.Cutting.{Cuts, CutsAt}
+use Rattle.mail_proxy.specs.Auditing.{Audits, AuditsAt, IsAudited, TellsTruth, WereOpened}
+use Rattle.repair_desk.specs.Repairs.{position}
+use Rattle.desk_journal.specs.Records.{are_true}
+use Rattle.time_desk.specs.Auditing.{false_record}
+use Rattle.mail_proxy.specs.Script.{Played, Plays, PlaysScript, PlaysText, RunsScript, Scripts, TellsOutcome, status_of}
 use Rattle.mail_proxy.specs.Serve.{ServesStore}
 use Rattle.mail_proxy.specs.Texts.{End, ending, FromText, IsText}
-use Rattle.mail_proxy.proofs.Causes.{fault_stays, opened_as, opened_some}
+use Rattle.mail_proxy.proofs.Causes.{TruthIsSettled, fault_stays, opened_as, opened_some}
 
 -- a text that is told is that text
 the_text : (told : Option (List ℕ)) (known text : List ℕ) → told ≡ Some known → IsText told text → text ≡ known
@@ -68,7 +75,7 @@ by_write e = inr (inr (inr (inr (inl e))))
 by_link : {s : ℕ} → s ≡ 4 → IsHindered s
 by_link e = inr (inr (inr (inr (inr e))))
 
-module _ {D : Type 0} (told : D → DiskTold) (disk : D) (end : End D) (text text' : SourceTold) (link link' : LinkTold) (out out' : SinkTold) (s : ℕ) (shows : Shows end.status end.output s out out') (k : ℕ) where
+module _ (truth : TruthIsSettled) {D : Type 0} (told : D → DiskTold) (disk : D) (end : End D) (text text' : SourceTold) (link link' : LinkTold) (out out' : SinkTold) (s : ℕ) (shows : Shows end.status end.output s out out') (k : ℕ) where
   -- nothing is wrong, and that is due
   well : end.status ≡ 0 → k ≡ 0 → (s ≡ k) ⊎ IsHindered s
   well zero due = by_wrote shows.0 shows.2
@@ -162,7 +169,7 @@ module _ {D : Type 0} (told : D → DiskTold) (disk : D) (end : End D) (text tex
 
   -- the script was served
   served : (outcome : Result (Unit {0}) ServeFault) (first : Kept) (events : List Event) (notes : List LinkNote) (steps : List Step) (last : Kept)
-      → Played first events outcome notes steps last → Tells outcome notes end.status end.output → k ≡ 0 → (s ≡ k) ⊎ IsHindered s
+      → Played first events outcome notes steps last → TellsOutcome outcome notes end.status end.output → k ≡ 0 → (s ≡ k) ⊎ IsHindered s
   served (Ok x) first events notes steps last played (inl (zero, is)) due = well zero due
   served (Ok x) first events notes steps last played (inr (eight, is)) due = starved eight
   served (Err serve.Link) first events notes steps last played tells due = absurd (played.no_link_fault refl)
@@ -194,33 +201,39 @@ module _ {D : Type 0} (told : D → DiskTold) (disk : D) (end : End D) (text tex
       by_script (Ok all) e (outcome, notes, steps, last, played, no_fault, none_read, keeps, tells) = served outcome _ all notes steps last played tells due
 
   module _ (one_opening : (image : List ℕ) (one two : Result Kept StartFault) → OpensAs image one → OpensAs image two → one ≡ two) where
-    -- a store that opened was to open
-    due_opened : (kept : Kept) (gate : ℕ) (new : DiskTold) → Starts (told disk) new (Ok (kept, gate)) → IsDueStore (told disk) k → k ≡ 0
-    due_opened kept gate new starts (inl (empty, three)) = absurd (opened_some (told disk) new (kept, gate) starts empty)
-    due_opened kept gate new starts (inr (honest, inl (other, leaves, due))) = due
-    due_opened kept gate new starts (inr (honest, inr (inl (not, due)))) =
+    the_kept : (kept other : Kept) → ◌≡◌ {A = Result Kept StartFault} (Ok kept) (Ok other) → other ≡ kept
+    the_kept kept other e = cc
+
+    -- a store that opened was to open, and that is due which its records come to
+    due_opened : (command : Option Command) (kept : Kept) (gate : ℕ) (new : DiskTold) → Starts (told disk) new (Ok (kept, gate)) → IsDueStore command (told disk) k
+        → (told disk).honest × (leaves : OpensAs (told disk).content (Ok kept)) × (k ≡ due_of command leaves.records kept)
+    due_opened command kept gate new starts (inl (empty, three)) = absurd (opened_some (told disk) new (kept, gate) starts empty)
+    due_opened command kept gate new starts (inr (honest, inl (other, leaves, due))) =
+        let same : other ≡ kept = the_kept kept other (one_opening (told disk).content (Ok kept) (Ok other) (opened_as (told disk) new kept gate starts honest) leaves) in
+        (honest, record { records = leaves.records; stands = leaves.stands; state_is = leaves.state_is ∙ ap (λ (x : Kept). Some x) same }, due ∙ ap (due_of command leaves.records) same)
+    due_opened command kept gate new starts (inr (honest, inr (inl (not, due)))) =
         absurd (let wrong : ◌≡◌ {A = Result Kept StartFault} (Ok kept) (Err start.NotFormatted) = one_opening (told disk).content (Ok kept) (Err start.NotFormatted) (opened_as (told disk) new kept gate starts honest) not in cc)
-    due_opened kept gate new starts (inr (honest, inr (inr (place, damaged, due)))) =
+    due_opened command kept gate new starts (inr (honest, inr (inr (place, damaged, due)))) =
         absurd (let wrong : ◌≡◌ {A = Result Kept StartFault} (Ok kept) (Err (start.Damaged place)) = one_opening (told disk).content (Ok kept) (Err (start.Damaged place)) (opened_as (told disk) new kept gate starts honest) damaged in cc)
 
     -- one that was not opened was not to open
-    due_unopened : OpensNone told disk end → IsDueStore (told disk) k → (s ≡ k) ⊎ IsHindered s
-    due_unopened (start.NotFormatted, starts, three, is) (inl (empty, due)) = inl (stays 3 three (λ z. omega arith) ∙ sym due)
-    due_unopened (start.NotFormatted, starts, three, is) (inr (honest, inl (kept, leaves, due))) =
+    due_unopened : (command : Option Command) → OpensNone told disk end → IsDueStore command (told disk) k → (s ≡ k) ⊎ IsHindered s
+    due_unopened command (start.NotFormatted, starts, three, is) (inl (empty, due)) = inl (stays 3 three (λ z. omega arith) ∙ sym due)
+    due_unopened command (start.NotFormatted, starts, three, is) (inr (honest, inl (kept, leaves, due))) =
         absurd (let wrong : ◌≡◌ {A = Result Kept StartFault} (Err start.NotFormatted) (Ok kept) = one_opening (told disk).content (Err start.NotFormatted) (Ok kept) (starts.found honest) leaves in cc)
-    due_unopened (start.NotFormatted, starts, three, is) (inr (honest, inr (inl (not, due)))) = inl (stays 3 three (λ z. omega arith) ∙ sym due)
-    due_unopened (start.NotFormatted, starts, three, is) (inr (honest, inr (inr (place, damaged, due)))) =
+    due_unopened command (start.NotFormatted, starts, three, is) (inr (honest, inr (inl (not, due)))) = inl (stays 3 three (λ z. omega arith) ∙ sym due)
+    due_unopened command (start.NotFormatted, starts, three, is) (inr (honest, inr (inr (place, damaged, due)))) =
         absurd (let wrong : ◌≡◌ {A = Result Kept StartFault} (Err start.NotFormatted) (Err (start.Damaged place)) =
         one_opening (told disk).content (Err start.NotFormatted) (Err (start.Damaged place)) (starts.found honest) damaged in cc)
-    due_unopened (start.Damaged p, starts, ten, is) (inl (empty, due)) = absurd (undamaged (told disk) (told end.disk) p starts empty)
-    due_unopened (start.Damaged p, starts, ten, is) (inr (honest, inl (kept, leaves, due))) =
+    due_unopened command (start.Damaged p, starts, ten, is) (inl (empty, due)) = absurd (undamaged (told disk) (told end.disk) p starts empty)
+    due_unopened command (start.Damaged p, starts, ten, is) (inr (honest, inl (kept, leaves, due))) =
         absurd (let wrong : ◌≡◌ {A = Result Kept StartFault} (Err (start.Damaged p)) (Ok kept) = one_opening (told disk).content (Err (start.Damaged p)) (Ok kept) (starts.found honest) leaves in cc)
-    due_unopened (start.Damaged p, starts, ten, is) (inr (honest, inr (inl (not, due)))) =
+    due_unopened command (start.Damaged p, starts, ten, is) (inr (honest, inr (inl (not, due)))) =
         absurd (let wrong : ◌≡◌ {A = Result Kept StartFault} (Err (start.Damaged p)) (Err start.NotFormatted) =
         one_opening (told disk).content (Err (start.Damaged p)) (Err start.NotFormatted) (starts.found honest) not in cc)
-    due_unopened (start.Damaged p, starts, ten, is) (inr (honest, inr (inr (place, damaged, due)))) = inl (stays 10 ten (λ z. omega arith) ∙ sym due)
-    due_unopened (start.Disk, starts, five, is) due = inr (by_disk (stays 5 five (λ z. omega arith)))
-    due_unopened (start.NoMemory, starts, eight, is) due = starved eight
+    due_unopened command (start.Damaged p, starts, ten, is) (inr (honest, inr (inr (place, damaged, due)))) = inl (stays 10 ten (λ z. omega arith) ∙ sym due)
+    due_unopened command (start.Disk, starts, five, is) due = inr (by_disk (stays 5 five (λ z. omega arith)))
+    due_unopened command (start.NoMemory, starts, eight, is) due = starved eight
 
     due_script : (known : List ℕ) → text.left ≡ Some known → nat_lt 67108864 (length known) ≡ false → IsDueFor (Some Script) known (told disk) k → Scripts told text text' disk end
         → (s ≡ k) ⊎ IsHindered s
@@ -229,22 +242,66 @@ module _ {D : Type 0} (told : D → DiskTold) (disk : D) (end : End D) (text tex
       where
         by_script : (r : Result (List Event) ℕ) → r ≡ Ok events → RunsScript told disk r end → (s ≡ k) ⊎ IsHindered s
         by_script (Err n) e runs = absurd (let wrong : ◌≡◌ {A = Result (List Event) ℕ} (Err n) (Ok events) = e in cc)
-        by_script (Ok all) e (inl none) = due_unopened none due
+        by_script (Ok all) e (inl none) = due_unopened (Some Script) none due
         by_script (Ok all) e (inr (desk, starts, (last, run, disk_is, journals))) =
-            served run.outcome desk.kept all run.notes run.steps last.kept run.played run.tells (due_opened desk.kept desk.gate (told desk.disk) starts due)
+            served run.outcome desk.kept all run.notes run.steps last.kept run.played run.tells (due_opened (Some Script) desk.kept desk.gate (told desk.disk) starts due).2
 
-    due_check : Checks told disk end → IsDueStore (told disk) k → (s ≡ k) ⊎ IsHindered s
-    due_check (inl none, kept) due = due_unopened none due
+    due_check : Checks told disk end → IsDueStore (Some Check) (told disk) k → (s ≡ k) ⊎ IsHindered s
+    due_check (inl none, kept) due = due_unopened (Some Check) none due
     due_check (inr (desk, starts, counted), kept) due = by_told counted.0
       where
         by_told : TellsCounts desk.kept end.status end.output → (s ≡ k) ⊎ IsHindered s
-        by_told (inl (nought, is)) = well nought (due_opened desk.kept desk.gate (told desk.disk) starts due)
+        by_told (inl (nought, is)) = well nought (due_opened (Some Check) desk.kept desk.gate (told desk.disk) starts due).2
         by_told (inr (eight, is)) = starved eight
 
-    due_serve : ServesStore told link link' disk end → IsDueStore (told disk) k → (s ≡ k) ⊎ IsHindered s
-    due_serve (inl (none, still)) due = due_unopened none due
-    due_serve (inr (desk, starts, (last, run, disk_is, journals))) due =
-        by_outcome run.outcome run.status_is (due_opened desk.kept desk.gate (told desk.disk) starts due)
+    -- a fault of the disk
+    by_fault : end.status ≡ 5 → (s ≡ k) ⊎ IsHindered s
+    by_fault five = inr (by_disk (stays 5 five (λ z. omega arith)))
+
+    -- what is due of a cut, by the point
+    at_point : (p : Option ℕ) (kept : Kept) (point : ℕ) → position kept.timeline point ≡ p → k ≡ (if is_some (position kept.timeline point) then 0 else 11) → k ≡ (if is_some p then 0 else 11)
+    at_point p kept point is due = due ∙ ap (λ (o : Option ℕ). if is_some o then 0 else 11) is
+
+    due_cut : (point : ℕ) → Cuts told disk point s out out' end → IsDueStore (Some (Cut point)) (told disk) k → (s ≡ k) ⊎ IsHindered s
+    due_cut point (inl none, kept) due = due_unopened (Some (Cut point)) none due
+    due_cut point (inr (desk, starts, (last, still, disk_is, cuts)), kept) due = by_cut (due_opened (Some (Cut point)) desk.kept desk.gate (told desk.disk) starts due).2 cuts
+      where
+        by_cut : k ≡ (if is_some (position desk.kept.timeline point) then 0 else 11) → CutsAt told (told disk).honest point desk last end.status end.output s out out' → (s ≡ k) ⊎ IsHindered s
+        by_cut is (inl (reads, inl (none, eleven, line))) = inl (stays 11 eleven (λ z. omega arith) ∙ sym (at_point None desk.kept point none is))
+        by_cut is (inl (reads, inr (inl (payloads, of, nought, line, writes)))) = well nought (at_point (Some of.place) desk.kept point of.place_is is)
+        by_cut is (inl (reads, inr (inr (eight, line)))) = starved eight
+        by_cut is (inr (inl (failed, (five, line)))) = by_fault five
+        by_cut is (inr (inr (rose, (payloads, of, five, short, took)))) = by_fault five
+
+    due_audit : Audits told disk end → IsDueStore (Some Audit) (told disk) k → (s ≡ k) ⊎ IsHindered s
+    due_audit (inl none, kept) due = due_unopened (Some Audit) none due
+    due_audit (inr (desk, starts, (last, still, disk_is, audits)), kept) due = by_audit (due_opened (Some Audit) desk.kept desk.gate (told desk.disk) starts due) audits
+      where
+        Due : Type 0
+        Due = (told disk).honest × (leaves : OpensAs (told disk).content (Ok desk.kept)) × (k ≡ due_of (Some Audit) leaves.records desk.kept)
+
+        by_found : (d : Due) (audited : IsAudited (WereOpened told disk desk.kept) end.status end.output) → (found : Option ℕ) → audited.found ≡ found → (t : Bool) → are_true d.1.records ≡ t → TellsTruth found end.status end.output
+            → (s ≡ k) ⊎ IsHindered s
+        by_found d audited None is true are (nought, line) = well nought (d.2 ∙ ap (λ (b : Bool). if b then 0 else 12) are)
+        by_found d audited None is false are (nought, line) =
+            let none = sym (audited.exact d.1.records (record { honest = d.0; stands = d.1.stands; state_is = d.1.state_is })) ∙ is in
+            absurd (let wrong : true ≡ false = sym ((truth d.1.records desk.kept d.1.state_is).0 none) ∙ are in cc)
+        by_found d audited (Some place) is true are (twelve, line) =
+            let none = (truth d.1.records desk.kept d.1.state_is).1 are in
+            absurd (let wrong : ◌≡◌ {A = Option ℕ} (Some place) None = sym is ∙ audited.exact d.1.records (record { honest = d.0; stands = d.1.stands; state_is = d.1.state_is }) ∙ none in cc)
+        by_found d audited (Some place) is false are (twelve, line) = inl (stays 12 twelve (λ z. omega arith) ∙ sym (d.2 ∙ ap (λ (b : Bool). if b then 0 else 12) are))
+
+        by_audit : Due → AuditsAt told (WereOpened told disk desk.kept) desk last end.status end.output → (s ≡ k) ⊎ IsHindered s
+        by_audit d (inl (reads, inl audited)) = by_found d audited audited.found refl (are_true d.1.records) refl audited.tells
+        by_audit d (inl (reads, inr (eight, line))) = starved eight
+        by_audit d (inr (rose, (five, line))) = by_fault five
+
+    due_serve : (command : Option Command) → ((records : List JournalRecord) (kept : Kept) → due_of command records kept ≡ 0) → ServesStore told link link' disk end → IsDueStore command (told disk) k
+        → (s ≡ k) ⊎ IsHindered s
+    due_serve command zero (inl (none, still)) due = due_unopened command none due
+    due_serve command zero (inr (desk, starts, (last, run, disk_is, journals))) due =
+        let is = due_opened command desk.kept desk.gate (told desk.disk) starts due in
+        by_outcome run.outcome run.status_is (is.2 ∙ zero is.1.records desk.kept)
       where
         by_outcome : (outcome : Result (Unit {0}) ServeFault) → end.status ≡ status_of outcome → k ≡ 0 → (s ≡ k) ⊎ IsHindered s
         by_outcome (Ok x) status zero = well status zero
@@ -256,7 +313,7 @@ module _ {D : Type 0} (told : D → DiskTold) (disk : D) (end : End D) (text tex
     -- ---- all commands
 
     -- words of no stated shape, a bad text, or a text and a disk
-    by_command : (command : Option Command) → IsDue command (record { text = text; link = link; disk = told disk; out = out }) k → Does told command text text' link link' disk end → (s ≡ k) ⊎ IsHindered s
+    by_command : (command : Option Command) → IsDue command (record { text = text; link = link; disk = told disk; out = out }) k → Does told command text text' link link' s out out' disk end → (s ≡ k) ⊎ IsHindered s
     by_command None (inl (not_built, one)) (same, e) = inl (stays 1 (status_of_end 1 usage disk e) (λ z. omega arith) ∙ sym one)
     by_command None (inr (inl (t, line, is, bad, two))) does = absurd (bad_none None t line refl (λ u e. e) bad)
     by_command None (inr (inr (inl (t, is, short, due)))) does = absurd due
@@ -268,7 +325,7 @@ module _ {D : Type 0} (told : D → DiskTold) (disk : D) (end : End D) (text tex
     by_command (Some (Serve a b c d)) (inl (not_built, one)) does = absurd (let wrong : true ≡ false = not_built in cc)
     by_command (Some (Serve a b c d)) (inr (inl (t, line, is, bad, two))) does = absurd (bad_none (Some (Serve a b c d)) t line refl (λ u e. e) bad)
     by_command (Some (Serve a b c d)) (inr (inr (inl (t, is, short, due)))) does = absurd due
-    by_command (Some (Serve a b c d)) (inr (inr (inr due))) (same, serves) = due_serve serves due
+    by_command (Some (Serve a b c d)) (inr (inr (inr due))) (same, serves) = due_serve (Some (Serve a b c d)) (λ records kept. refl) serves due
     by_command (Some Script) (inl (not_built, one)) does = absurd (let wrong : true ≡ false = not_built in cc)
     by_command (Some Script) (inr (inl (t, line, is, bad, two))) does = bad_script t line is bad two does
     by_command (Some Script) (inr (inr (inl (t, is, short, due)))) does = due_script t is short due does
@@ -285,8 +342,16 @@ module _ {D : Type 0} (told : D → DiskTold) (disk : D) (end : End D) (text tex
     by_command (Some Check) (inr (inl (t, line, is, bad, two))) does = absurd (bad_none (Some Check) t line refl (λ u e. e) bad)
     by_command (Some Check) (inr (inr (inl (t, is, short, due)))) does = absurd due
     by_command (Some Check) (inr (inr (inr due))) (same, checks) = due_check checks due
+    by_command (Some (Cut point)) (inl (not_built, one)) does = absurd (let wrong : true ≡ false = not_built in cc)
+    by_command (Some (Cut point)) (inr (inl (t, line, is, bad, two))) does = absurd (bad_none (Some (Cut point)) t line refl (λ u e. e) bad)
+    by_command (Some (Cut point)) (inr (inr (inl (t, is, short, due)))) does = absurd due
+    by_command (Some (Cut point)) (inr (inr (inr due))) (same, cuts) = due_cut point cuts due
+    by_command (Some Audit) (inl (not_built, one)) does = absurd (let wrong : true ≡ false = not_built in cc)
+    by_command (Some Audit) (inr (inl (t, line, is, bad, two))) does = absurd (bad_none (Some Audit) t line refl (λ u e. e) bad)
+    by_command (Some Audit) (inr (inr (inl (t, is, short, due)))) does = absurd due
+    by_command (Some Audit) (inr (inr (inr due))) (same, audits) = due_audit audits due
 
     -- the status that is due comes, unless the run was hindered
-    pub due : (words : List (List ℕ)) → Answers told words text text' link link' disk end → IsDue (command_of words) (record { text = text; link = link; disk = told disk; out = out }) k → (s ≡ k) ⊎ IsHindered s
+    pub due : (words : List (List ℕ)) → Answers told words text text' link link' s out out' disk end → IsDue (command_of words) (record { text = text; link = link; disk = told disk; out = out }) k → (s ≡ k) ⊎ IsHindered s
     due words (inl does) is = by_command (command_of words) is does
     due words (inr (kept, (same, e))) is = starved (ap (λ (x : End D). x.status) e)

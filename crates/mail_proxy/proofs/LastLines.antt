@@ -20,3 +20,5 @@ some_line last.ReadFault is = omega arith
 some_line last.TooMany is = omega arith
 some_line last.NoMemory is = omega arith
 some_line (last.Damaged place) is = omega (arith, length-append (codes "undomail: damaged at ") (decimal place ++ lf))
+some_line last.NoPoint is = omega arith
+some_line (last.FalseRecord place) is = omega (arith, length-append (codes "undomail: false record at ") (decimal place ++ lf))

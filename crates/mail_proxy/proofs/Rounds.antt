@@ -11,7 +11,7 @@ use Rattle.mail_loop.specs.declared.serve.ServeFault.{ServeFault}
 use Rattle.mail_loop.specs.declared.serve.ServeFault.TheVariants.{NoMemory, Turns}
 use Rattle.mail_loop.specs.Serving.{Served, Step, events_of, left_out_in}
 use Rattle.command_words.specs.declared.commands.Command.{Command}
-use Rattle.command_words.specs.declared.commands.Command.TheVariants.{Init, Serve, Script, Play, Grow, Check}
+use Rattle.command_words.specs.declared.commands.Command.TheVariants.{Init, Serve, Script, Play, Grow, Check, Cut, Audit}
 use Rattle.command_words.specs.Spelling.{Says}
 use Rattle.command_words.specs.Usage.{command_of}
 use Rattle.mail_proxy.specs.Generated.{generated, greeting, reading_of, repair_of, round_of, up_to}
@@ -82,6 +82,8 @@ HasFewRounds (Some Script) = Unit {0}
 HasFewRounds (Some Play) = Unit {0}
 HasFewRounds (Some (Grow rounds)) = rounds ≤ 100000
 HasFewRounds (Some Check) = Unit {0}
+HasFewRounds (Some (Cut point)) = Unit {0}
+HasFewRounds (Some Audit) = Unit {0}
 
 -- words say no more than 100,000
 pub few_rounds : (law : (words : List (List ℕ)) (command : Command) → (command_of words ≡ Some command) ↔ Says words command) (words : List (List ℕ)) → HasFewRounds (command_of words)
@@ -95,3 +97,5 @@ few_rounds law words = by_command (command_of words) refl
     by_command (Some Play) e = tt
     by_command (Some (Grow rounds)) e = ((law words (Grow rounds)).0 e).1
     by_command (Some Check) e = tt
+    by_command (Some (Cut point)) e = tt
+    by_command (Some Audit) e = tt

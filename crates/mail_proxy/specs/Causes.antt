@@ -1,11 +1,17 @@
 -- When each status of `run` comes, and what is written then.
-use Rattle.std.specs.Prelude.{◌≡◌, ◌≢◌, ◌≤◌, ◌⊎◌, ℕ, ◌^◌, true, false, List, [], ◌++◌, length, MatchBool, nat_lt, Option, is_some, Result, Ok, Err}
+use Rattle.std.specs.Prelude.{◌≡◌, ◌≢◌, ◌<◌, ◌≤◌, ◌⊎◌, ℕ, ◌^◌, true, false, List, [], ◌++◌, codes, length, MatchBool, nat_lt, Option, None, Some, is_some, Result, Ok, Err}
+use Rattle.std.specs.List.{AllByRecursion}
 use Rattle.undo_outside.specs.declared.event.Event.{Event}
 use Rattle.undo_outside.specs.declared.event.LinkNote.{LinkNote}
-use Rattle.undo_outside.specs.Calls.{LinkTold, SourceTold, SinkTold}
-use Rattle.undo_outside.specs.Disk.{DiskTold, WriteFailed}
+use Rattle.undo_outside.specs.Calls.{LinkTold, Rose, SourceTold, SinkTold}
+use Rattle.undo_outside.specs.Disk.{DiskTold, ReadFailed, WriteFailed}
+use Rattle.seal_log.specs.Journal.{IsPayload}
 use Rattle.seal_log.specs.Loading.{IsNotFormatted}
+use Rattle.verb_bytes.specs.declared.journal.JournalRecord.{JournalRecord}
 use Rattle.store_kept.specs.Kept.{Kept}
+use Rattle.repair_desk.specs.Repairs.{position}
+use Rattle.cycle_rules.specs.Cutting.{cut}
+use Rattle.base_cut.specs.Cutting.{IsUnfinished, closed_journal}
 use Rattle.verb_core.specs.declared.conf.Conf.{Conf}
 use Rattle.verb_core.specs.declared.conf.House.{House}
 use Rattle.mail_loop.specs.declared.serve.ServeFault.{ServeFault}
@@ -15,13 +21,19 @@ use Rattle.script_link.specs.Script.{script_of}
 use Rattle.script_link.specs.Transcript.{transcript_of}
 use Rattle.desk_journal.specs.declared.fault.MakeFault.TheVariants as make
 use Rattle.time_desk.specs.declared.fault.StartFault.TheVariants as start
+use Rattle.desk_journal.specs.Founding.{cut_records}
 use Rattle.desk_journal.specs.Making.{Makes}
+use Rattle.desk_journal.specs.Records.{StandsForRecords, are_true, payloads_of}
+use Rattle.time_desk.specs.Auditing.{false_record}
 use Rattle.time_desk.specs.Opening.{IsDamaged, OpensAs, Starts}
 use Rattle.command_words.specs.declared.commands.Command.{Command}
+use Rattle.command_words.specs.declared.commands.Command.TheVariants.{Cut, Audit}
+use Rattle.mail_proxy.specs.Cutting.{StarvesBegun}
 use Rattle.mail_proxy.specs.Init.{IsNoConfig}
-use Rattle.mail_proxy.specs.Profiles.{TextUse, DeskUse, NoText, Configuration, EventScript, NoDesk, Formatted, Opened, Begun, profile_of, takes_script, opens, serves, uses_link, uses_text, writes_more}
-use Rattle.mail_proxy.specs.Lines.{usage, too_long, bad_configuration, bad_line, not_empty, not_a_store, link_fault, disk_fault, read_fault, too_many, no_memory, damaged}
-use Rattle.mail_proxy.specs.Reading.{ReadFails, Took, WriteFails, WriteStarves, Wrote}
+use Rattle.mail_proxy.specs.Profiles.{TextUse, DeskUse, NoText, Configuration, EventScript, NoDesk, Formatted, Opened, Begun, profile_of, reads_on, takes_script, opens, serves, uses_link, uses_text, writes_more}
+use Rattle.mail_proxy.specs.Lines.{usage, too_long, bad_configuration, bad_line, not_empty, not_a_store, link_fault, disk_fault, read_fault, too_many, no_memory, damaged, no_such_point, false_record_at, lf}
+use Rattle.base_cut.specs.Writing.{Took, WriteFails, WriteStarves, Wrote}
+use Rattle.mail_proxy.specs.Reading.{ReadFails}
 use Rattle.mail_proxy.specs.Script.{Played, opening}
 use Rattle.mail_proxy.specs.Texts.{IsText}
 
@@ -118,6 +130,18 @@ abbrev pub FailsAtFirst : Option Command → Outside → Outside → Type 0
 FailsAtFirst command old new =
     MatchBool (uses_link command) (FailsFor (profile_of command).desk old.disk new.disk × (new.link ≡ old.link)) (FailsFor (profile_of command).desk old.disk new.disk)
 
+-- the records that the image stands for are true
+pub record AreTrueIn (image : List ℕ) : Type 0 where
+  pub records : List JournalRecord
+  pub stands : StandsForRecords records image
+  pub are : are_true records ≡ true
+
+-- of the records that the image stands for the first that is not true has its gate at this place
+pub record IsFalseAt (image : List ℕ) (place : ℕ) : Type 0 where
+  pub records : List JournalRecord
+  pub stands : StandsForRecords records image
+  pub is : false_record records ≡ Some place
+
 -- 2^40 events of the link were served without an end
 pub record RanOn (command : Option Command) (disk : DiskTold) (link link' : LinkTold) : Type 0 where
   pub first : Kept
@@ -133,16 +157,64 @@ pub record RanOn (command : Option Command) (disk : DiskTold) (link link' : Link
 abbrev pub CountsReads : Option Command → DiskTold → DiskTold → Type 0
 CountsReads command old new = MatchBool (serves command) (old.failed_reads ≤ new.failed_reads) (new.failed_reads ≡ old.failed_reads)
 
+-- What a cut of the store that was opened is, at a point that it has: a journal of payloads; of an honest disk those of the records of what
+-- was kept, cut there.
+pub record IsCut (disk : DiskTold) (point : ℕ) (bytes : List ℕ) : Type 0 where
+  pub first : Kept
+  pub is_opened : IsOpened disk first
+  pub place : ℕ
+  pub place_is : position first.timeline point ≡ Some place
+  pub payloads : List (List ℕ)
+  pub bytes_are : bytes ≡ closed_journal payloads
+  pub exact : disk.honest → payloads ≡ payloads_of (cut_records first place)
+
+-- the cut was written whole: each of its payloads has a frame, and that of an honest disk opens as what was kept, cut at the point
+abbrev pub CutWell : Outside → Outside → ℕ → Type 0
+CutWell old new point =
+    (bytes : List ℕ) × (is : IsCut old.disk point bytes) × Took old.out new.out bytes × AllByRecursion IsPayload is.payloads
+    × (old.disk.honest → OpensAs bytes (Ok (cut is.first is.place)))
+
+-- a store was opened, the records of an honest disk are true, and it was told so
+abbrev pub AuditedWell : Outside → Outside → Type 0
+AuditedWell old new = HasDesk (Some Audit) old.disk × (old.disk.honest → AreTrueIn old.disk.content) × Took old.out new.out (codes "true" ++ lf)
+
+-- a store that was cut was cut well, and an audit ended well
+abbrev pub ReadWell : Option Command → Outside → Outside → Type 0
+ReadWell (Some (Cut point)) old new = CutWell old new point
+ReadWell (Some Audit) old new = AuditedWell old new
+ReadWell other old new = Unit {0}
+
+-- a first part of the cut was written, which was begun and is no journal
+abbrev pub CutShort : Outside → Outside → ℕ → Type 0
+CutShort old new point =
+    (front : List ℕ) × (back : List ℕ) × IsCut old.disk point (front ++ back) × (0 < length front) × (0 < length back) × IsUnfinished front × Took old.out new.out front
+
+-- a store that was cut was cut short, where a text was not read
+abbrev pub ReadShort : Option Command → Outside → Outside → Type 0
+ReadShort (Some (Cut point)) old new = CutShort old new point
+ReadShort other old new = ⊥
+
+-- this was to be written where no fault came before: of a store that is cut the cut
+abbrev pub IsOutput : Option Command → Outside → List ℕ → Type 0
+IsOutput (Some (Cut point)) old output = IsCut old.disk point output
+IsOutput other old output = Unit {0}
+
+-- a first part of this was written up to want of memory; of a cut at least a byte, unless the sink found none
+abbrev pub Starves : Option Command → Outside → Outside → List ℕ → Type 0
+Starves (Some (Cut point)) old new output = StarvesBegun old.out new.out output
+Starves other old new output = WriteStarves old.out new.out output
+
 module _ (command : Option Command) (old new : Outside) where
   -- a script was served well, so that none of its strings was missed or left out, and its transcript was written whole
   abbrev pub PlayedWell : Type 0
   PlayedWell = (transcript : List ℕ) × RanTo command old.text.left old.disk (Ok tt) transcript × Took old.out new.out transcript
 
-  -- 0: the words are a command, and no read and no write failed, but for reads of texts while events were served; a script was served well
+  -- 0: the words are a command, and no read and no write failed, but for reads of texts while events were served. A script was served well, or a
+  -- store cut well, or its records are true.
   abbrev pub AllWell : Type 0
   AllWell =
       (is_some command ≡ true) × (new.text.faults ≡ old.text.faults) × CountsReads command old.disk new.disk × (new.disk.failed_writes ≡ old.disk.failed_writes)
-      × (new.out.faults ≡ old.out.faults) × (takes_script command ≡ true → PlayedWell)
+      × (new.out.faults ≡ old.out.faults) × (takes_script command ≡ true → PlayedWell) × ReadWell command old new
 
   -- 1: the words are of no stated shape
   abbrev pub IsMisused : Type 0
@@ -160,12 +232,15 @@ module _ (command : Option Command) (old new : Outside) where
   abbrev pub EndsUnlinked : Type 0
   EndsUnlinked = (uses_link command ≡ true) × HasDesk command old.disk × CountsFaults (Err Link) old.link new.link × Wrote old.out new.out link_fault
 
-  -- 5: formatting or opening failed; or a store was opened, and then a write or a sync failed, and no other, where the last line may stand behind a transcript
+  -- 5: formatting or opening failed. Or a store was opened, and then a write or a sync failed, and no other; there the last line may stand behind a
+  -- transcript. Or a store was opened that is cut or audited, and then a read failed; there no last line stands behind a first part of a cut.
   abbrev pub EndsFailed : Type 0
   EndsFailed =
       (FailsAtFirst command old new × Wrote old.out new.out disk_fault)
       ⊎ ((serves command ≡ true) × HasDesk command old.disk × WriteFailed old.disk new.disk × (old.disk.failed_reads ≤ new.disk.failed_reads)
       × ((front : List ℕ) × IsFront command old.text.left old.disk (Err Disk) front × Wrote old.out new.out (front ++ disk_fault)))
+      ⊎ ((reads_on command ≡ true) × HasDesk command old.disk
+      × ((ReadFailed old.disk new.disk × Wrote old.out new.out disk_fault) ⊎ (Rose old.disk.failed_reads new.disk.failed_reads × ReadShort command old new)))
 
   -- 6: a read of the text failed
   abbrev pub EndsUnread : Type 0
@@ -182,15 +257,25 @@ module _ (command : Option Command) (old new : Outside) where
   abbrev pub EndsStarved : Type 0
   EndsStarved =
       (front : List ℕ)
-      × ((IsFront command old.text.left old.disk (Err NoMemory) front × Wrote old.out new.out (front ++ no_memory)) ⊎ WriteStarves old.out new.out front)
+      × ((IsFront command old.text.left old.disk (Err NoMemory) front × Wrote old.out new.out (front ++ no_memory))
+      ⊎ (IsOutput command old front × Starves command old new front))
 
-  -- 9: there was a desk, and a write of the transcript or of the counts failed
+  -- 9: there was a desk, and a write of the transcript, the counts, the cut or the audit's answer failed
   abbrev pub EndsUnwritten : Type 0
-  EndsUnwritten = (writes_more command ≡ true) × HasDesk command old.disk × ((output : List ℕ) × WriteFails old.out new.out output)
+  EndsUnwritten = (writes_more command ≡ true) × HasDesk command old.disk × ((output : List ℕ) × IsOutput command old output × WriteFails old.out new.out output)
 
   -- 10: an open gate stands at this place, and behind it no record that can stand there
   abbrev pub EndsDamaged : Type 0
   EndsDamaged = (opens command ≡ true) × ((place : ℕ) × (old.disk.honest → IsDamaged old.disk.content place) × Wrote old.out new.out (damaged place))
+
+  -- 11: the store that was opened does not have the point
+  abbrev pub EndsPointless : Type 0
+  EndsPointless =
+      (point : ℕ) × (command ≡ Some (Cut point)) × (first : Kept) × IsOpened old.disk first × (position first.timeline point ≡ None) × Wrote old.out new.out no_such_point
+
+  -- 12: a record of the store that was opened is not true
+  abbrev pub EndsUntrue : Type 0
+  EndsUntrue = (command ≡ Some Audit) × HasDesk command old.disk × ((place : ℕ) × (old.disk.honest → IsFalseAt old.disk.content place) × Wrote old.out new.out (false_record_at place))
 
 -- When each status comes, and what is written then. No other comes. The link's count rises with status 4 alone.
 pub record Comes (command : Option Command) (old new : Outside) (status : ℕ) : Type 0 where
@@ -205,5 +290,7 @@ pub record Comes (command : Option Command) (old new : Outside) (status : ℕ) :
   pub no_memory : status ≡ 8 → EndsStarved command old new
   pub write_fault : status ≡ 9 → EndsUnwritten command old new
   pub damaged : status ≡ 10 → EndsDamaged command old new
-  pub no_other : status ≤ 10
+  pub no_point : status ≡ 11 → EndsPointless command old new
+  pub false_record : status ≡ 12 → EndsUntrue command old new
+  pub no_other : status ≤ 12
   pub link_count : status ≢ 4 → new.link.faults ≡ old.link.faults

@@ -33,7 +33,7 @@ TellsText text status output = ((status ≡ 0) × (output ≡ text)) ⊎ ((statu
 abbrev pub TellsCounts : Kept → ℕ → List ℕ → Type 0
 TellsCounts kept status output = TellsText (check_text kept) status output
 
--- Nothing was written: the length is as it was, a crash at any moment leaves what it could have left at first, and what reads give is as before, or
+-- Nothing was written: the length is as it was, and a crash at any moment leaves what it could have left at first. What reads give is as before, or
 -- after a fault of the disk one of that.
 pub record IsOnlyRead (status : ℕ) (old new : DiskTold) : Type 0 where
   pub size : new.size ≡ old.size

@@ -1,5 +1,5 @@
--- The events that the command `grow` serves: mail to each user in turn, then a client that reads the first user's mail, then an operator who takes one message out
--- of the past.
+-- The events that the command `grow` serves: mail to each user in turn, then a client that reads the first user's mail. Then comes an operator who
+-- takes one message out of the past.
 use Rattle.std.specs.Prelude.{ℕ, ◌+◌, ◌%◌, ◌==◌, List, [], ◌∷◌, ◌++◌, map, codes, decimal, if◌then◌else◌, suc, zero}
 use Rattle.std.specs.List.{flat_map}
 use Rattle.undo_outside.specs.declared.event.Event.{Event}
@@ -32,7 +32,6 @@ receiver_of i =
 abbrev pub recipient_line : ℕ → List ℕ
 recipient_line i = codes "RCPT TO:<" ++ receiver_of i ++ codes "@mail.test>"
 
--- the lines of a round
 abbrev pub round_lines : ℕ → List (List ℕ)
 round_lines i =
     codes "MAIL FROM:<g@mail.test>"

@@ -26,8 +26,8 @@ abbrev pub TellsGrown : ℕ → Result (Unit {0}) ServeFault → Kept → ℕ �
 TellsGrown rounds (Ok x) last status output = TellsText (grown_text rounds (counts_of last)) status output
 TellsGrown rounds (Err e) last status output = (status ≡ status_of (Err e)) × (output ≡ last_line (Err e))
 
--- How events were served over a desk: the machine's steps for them, what is to be answered and written, and what holds of what is kept at last where
--- the disk held the texts.
+-- How events were served over a desk: the machine's steps for them, and what is to be answered and written. And what holds of what is kept at last
+-- where the disk held the texts.
 pub record ServesGenerated {D : Type 0} (told : D → DiskTold) (rounds : ℕ) (events : List Event) (first last : Lasting D) (status : ℕ) (output : List ℕ) : Type 0 where
   pub outcome : Result (Unit {0}) ServeFault
   pub notes : List LinkNote

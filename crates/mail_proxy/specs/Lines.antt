@@ -7,7 +7,7 @@ abbrev pub lf : List ℕ
 lf = 10 ∷ []
 
 abbrev pub usage : List ℕ
-usage = codes "undomail: usage: undomail init STORE, serve STORE SMTP IMAP HTTP [POP], script STORE, play, grow ROUNDS, check STORE" ++ lf
+usage = codes "undomail: usage: undomail init STORE, serve STORE SMTP IMAP HTTP [POP], script STORE, play, grow ROUNDS, check STORE, cut STORE POINT, audit STORE" ++ lf
 
 abbrev pub too_long : List ℕ
 too_long = codes "undomail: text too long" ++ lf
@@ -42,6 +42,12 @@ no_memory = codes "undomail: no memory" ++ lf
 abbrev pub damaged : ℕ → List ℕ
 damaged place = codes "undomail: damaged at " ++ decimal place ++ lf
 
+abbrev pub no_such_point : List ℕ
+no_such_point = codes "undomail: no such point" ++ lf
+
+abbrev pub false_record_at : ℕ → List ℕ
+false_record_at place = codes "undomail: false record at " ++ decimal place ++ lf
+
 -- the line that a program ends with
 abbrev pub line_text : LastLine → List ℕ
 line_text last.Nothing = []
@@ -57,6 +63,8 @@ line_text last.ReadFault = read_fault
 line_text last.TooMany = too_many
 line_text last.NoMemory = no_memory
 line_text (last.Damaged place) = damaged place
+line_text last.NoPoint = no_such_point
+line_text (last.FalseRecord place) = false_record_at place
 
 -- whether there is no last line
 abbrev pub is_nothing : LastLine → Bool
@@ -73,3 +81,5 @@ is_nothing last.ReadFault = false
 is_nothing last.TooMany = false
 is_nothing last.NoMemory = false
 is_nothing (last.Damaged place) = false
+is_nothing last.NoPoint = false
+is_nothing (last.FalseRecord place) = false

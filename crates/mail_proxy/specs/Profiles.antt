@@ -1,7 +1,7 @@
 -- What each command of the program uses: one table.
 use Rattle.std.specs.Prelude.{Bool, true, false, Option, None, Some}
 use Rattle.command_words.specs.declared.commands.Command.{Command}
-use Rattle.command_words.specs.declared.commands.Command.TheVariants.{Init, Serve, Script, Play, Grow, Check}
+use Rattle.command_words.specs.declared.commands.Command.TheVariants.{Init, Serve, Script, Play, Grow, Check, Cut, Audit}
 
 -- what the text is to a command
 pub data TextUse : Type 0 where
@@ -17,24 +17,27 @@ pub data DeskUse : Type 0 where
   Opened : DeskUse
   Begun : DeskUse
 
--- what a command reads, where its desk comes from, and whether it serves events over the disk, and so writes to it, uses the link,
--- and writes more than a last line
+-- What a command reads, where its desk comes from, and whether it serves events over the disk, and so writes to it. And whether it
+-- uses the link, writes more than a last line, and reads what lies on the disk once the store is opened.
 pub record Profile : Type 0 where
   pub text : TextUse
   pub desk : DeskUse
   pub serves : Bool
   pub link : Bool
   pub more : Bool
+  pub reads : Bool
 
 -- words of no stated shape are no command, and use nothing
 abbrev pub profile_of : Option Command → Profile
-profile_of None = record { text = NoText; desk = NoDesk; serves = false; link = false; more = false }
-profile_of (Some Init) = record { text = Configuration; desk = Formatted; serves = false; link = false; more = false }
-profile_of (Some (Serve smtp imap http pop)) = record { text = NoText; desk = Opened; serves = true; link = true; more = false }
-profile_of (Some Script) = record { text = EventScript; desk = Opened; serves = true; link = false; more = true }
-profile_of (Some Play) = record { text = EventScript; desk = Begun; serves = false; link = false; more = true }
-profile_of (Some (Grow rounds)) = record { text = NoText; desk = Begun; serves = false; link = false; more = true }
-profile_of (Some Check) = record { text = NoText; desk = Opened; serves = false; link = false; more = true }
+profile_of None = record { text = NoText; desk = NoDesk; serves = false; link = false; more = false; reads = false }
+profile_of (Some Init) = record { text = Configuration; desk = Formatted; serves = false; link = false; more = false; reads = false }
+profile_of (Some (Serve smtp imap http pop)) = record { text = NoText; desk = Opened; serves = true; link = true; more = false; reads = false }
+profile_of (Some Script) = record { text = EventScript; desk = Opened; serves = true; link = false; more = true; reads = false }
+profile_of (Some Play) = record { text = EventScript; desk = Begun; serves = false; link = false; more = true; reads = false }
+profile_of (Some (Grow rounds)) = record { text = NoText; desk = Begun; serves = false; link = false; more = true; reads = false }
+profile_of (Some Check) = record { text = NoText; desk = Opened; serves = false; link = false; more = true; reads = false }
+profile_of (Some (Cut point)) = record { text = NoText; desk = Opened; serves = false; link = false; more = true; reads = true }
+profile_of (Some Audit) = record { text = NoText; desk = Opened; serves = false; link = false; more = true; reads = true }
 
 -- ---- the columns
 
@@ -87,3 +90,7 @@ uses_link command = (profile_of command).link
 -- those that write more than a last line
 abbrev pub writes_more : Option Command → Bool
 writes_more command = (profile_of command).more
+
+-- those that read what lies on the disk of a store that was opened
+abbrev pub reads_on : Option Command → Bool
+reads_on command = (profile_of command).reads

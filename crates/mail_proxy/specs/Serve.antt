@@ -21,10 +21,10 @@ use Rattle.mail_proxy.specs.Opening.{OpensNone}
 use Rattle.mail_proxy.specs.Script.{IsKeptWell, Journals, last_line, status_of}
 use Rattle.mail_proxy.specs.Texts.{End}
 
--- How the events of a link were served over a desk: the machine's steps for those that came, what the link did, what was sealed, where what was not
--- sealed is what these steps say, how often a text could not be read or was not the one that was stored, how many writes found no memory, just as many
--- as these steps say, what is to be answered and written, which desks serving went through, what holds of what is kept at last where the disk held
--- the texts, and that no text comes back where no withdrawal was sealed.
+-- How the events of a link were served over a desk: the machine's steps for those that came, and what the link did. What was sealed, and where what
+-- was not sealed is what these steps say. How often a text could not be read or was not the one that was stored, and how many writes found no
+-- memory, just as many as these steps say. What is to be answered and written, and which desks serving went through. And what holds of what is kept
+-- at last where the disk held the texts, and that no text comes back where no withdrawal was sealed.
 pub record ServesLink {D : Type 0} (told : D → DiskTold) (link link' : LinkTold) (first last : Lasting D) (status : ℕ) (output : List ℕ) : Type 0 where
   pub outcome : Result (Unit {0}) ServeFault
   pub notes : List LinkNote
@@ -42,9 +42,9 @@ pub record ServesLink {D : Type 0} (told : D → DiskTold) (link link' : LinkTol
   pub stays : HoldsTexts told first → list_any is_withdrawal added ≡ false → UidsStay first.kept last.kept
 
 module _ {D : Type 0} (told : D → DiskTold) where
-  -- The events are served over the desk of a store that was opened, and then the disk gets no call more. On an honest disk the desk
-  -- that was opened holds its texts, so that what is kept at last is what the records leave, its store is what the items in force leave, and no
-  -- turn was given another text than was stored; and what was answered before a moment is in every image of that moment and of each later one.
+  -- The events are served over the desk of a store that was opened, and then the disk gets no call more. On an honest disk the desk that was
+  -- opened holds its texts. So what is kept at last is what the records leave, its store is what the items in force leave, and no turn was
+  -- given another text than was stored. What was answered before a moment is in every image of that moment and of each later one.
   abbrev pub ServesOn : D → LinkTold → LinkTold → Lasting D → End D → Type 0
   ServesOn disk link link' first end =
       (last : Lasting D) × (run : ServesLink told link link' first last end.status end.output) × (end.disk ≡ last.disk)

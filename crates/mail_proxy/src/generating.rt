@@ -17,8 +17,8 @@ const FIRST_MOMENT: u64 = 1105092000;
 const REPAIR: &[u8] =
     b"POST /cycle HTTP/1.1\r\nHost: x\r\nContent-Length: 35\r\n\r\n{\"drop\":[4],\"key\":\"grow\",\"point\":0}";
 
-/// The events of so many rounds, from 3 to 100,000: mail to each user of the house of `play` in turn, a client that reads all
-/// of the first user's, and a cycle that takes the third message out of the past. The end comes after them.
+/// The events of so many rounds, from 3 to 100,000. They are mail to each user of the house of `play` in turn, a client that
+/// reads all of the first user's, and a cycle. That takes the third message out of the past. The end comes after them.
 pub fn generate(alloc: Global, rounds: u32) -> Result<Events, NoMemory>
     ensures { IfOk result (λ events. events ≡ generated rounds) }
 {

@@ -1,12 +1,12 @@
 //! What is to be answered and written, and the writing of it.
 ghost use Rattle.std.specs.Prelude.{◌≡◌, ◌≢◌, ℕ, [], IfOk};
-ghost use Rattle.mail_proxy.specs.Reading.{Wrote, WritesAll};
-ghost use Rattle.mail_proxy.specs.Lines.{bad_line, damaged, is_nothing, line_text, no_memory};
-ghost use Rattle.mail_proxy.specs.Answers.{Shows, first_fault};
+ghost use Rattle.base_cut.specs.Writing.{WritesAll, Wrote};
+ghost use Rattle.mail_proxy.specs.Lines.{bad_line, damaged, false_record_at, is_nothing, line_text, no_memory};
+ghost use Rattle.mail_proxy.specs.Shows.{Shows, first_fault};
 ghost use Rattle.mail_proxy.specs.Plans.{output_of, refused_line, refused_status};
 
 use crate::reading::ReadRefused;
-use crate::writing::write_all;
+use base_cut::write_all;
 use std::alloc::Global;
 use undo_base::{NoMemory, Text};
 use undo_outside::{Fault, Sink, SinkFault};
@@ -27,6 +27,8 @@ pub enum LastLine {
     TooMany,
     NoMemory,
     Damaged(u64),
+    NoPoint,
+    FalseRecord(u64),
 }
 
 /// What is to be answered and written: the transcript or the counts, and the last line.
@@ -63,12 +65,13 @@ pub fn unread(alloc: Global, refused: ReadRefused) -> Plan
 fn fixed_line(last: LastLine) -> &'static [u8]
     requires line { (n : ℕ) → last ≢ LastLine.BadLine n }
     requires place { (n : ℕ) → last ≢ LastLine.Damaged n }
+    requires false_place { (n : ℕ) → last ≢ LastLine.FalseRecord n }
     ensures { result.now ≡ line_text last }
 {
     match last {
         LastLine::Nothing => b"",
         LastLine::Usage =>
-            b"undomail: usage: undomail init STORE, serve STORE SMTP IMAP HTTP [POP], script STORE, play, grow ROUNDS, check STORE\n",
+            b"undomail: usage: undomail init STORE, serve STORE SMTP IMAP HTTP [POP], script STORE, play, grow ROUNDS, check STORE, cut STORE POINT, audit STORE\n",
         LastLine::TooLong => b"undomail: text too long\n",
         LastLine::BadConfiguration => b"undomail: bad configuration\n",
         LastLine::BadLine(_) => unreachable!(),
@@ -80,6 +83,8 @@ fn fixed_line(last: LastLine) -> &'static [u8]
         LastLine::TooMany => b"undomail: too many events\n",
         LastLine::NoMemory => b"undomail: no memory\n",
         LastLine::Damaged(_) => unreachable!(),
+        LastLine::NoPoint => b"undomail: no such point\n",
+        LastLine::FalseRecord(_) => unreachable!(),
     }
 }
 
@@ -89,6 +94,7 @@ fn make_line(alloc: Global, last: LastLine) -> Result<Text, NoMemory>
     match last {
         LastLine::BadLine(line) => make_bad_line(alloc, line),
         LastLine::Damaged(place) => make_damaged(alloc, place),
+        LastLine::FalseRecord(place) => make_false_record(alloc, place),
         _ => Text::of(alloc, fixed_line(last)),
     }
 }
@@ -104,6 +110,13 @@ fn make_damaged(alloc: Global, place: u64) -> Result<Text, NoMemory>
     ensures { IfOk result (λ text. text ≡ damaged place) }
 {
     let text = format!(in alloc; "undomail: damaged at {place}\n")?;
+    Text::of(alloc, text.as_bytes())
+}
+
+fn make_false_record(alloc: Global, place: u64) -> Result<Text, NoMemory>
+    ensures { IfOk result (λ text. text ≡ false_record_at place) }
+{
+    let text = format!(in alloc; "undomail: false record at {place}\n")?;
     Text::of(alloc, text.as_bytes())
 }
 

@@ -1,18 +1,21 @@
 //! The top call.
 ghost use Rattle.std.specs.Prelude.{◌≡◌, ◌⊎◌, ℕ, false, Some, IfErr, IfOk, map, string_bytes};
 ghost use Rattle.command_words.specs.Usage.{command_of};
-ghost use Rattle.mail_proxy.specs.Answers.{Answers, Does, Shows};
+ghost use Rattle.mail_proxy.specs.Answers.{Answers, Does};
+ghost use Rattle.mail_proxy.specs.Shows.{Shows};
 ghost use Rattle.mail_proxy.specs.Causes.{Comes};
 ghost use Rattle.mail_proxy.specs.Profiles.{uses_disk, uses_link, uses_text};
 ghost use Rattle.mail_proxy.specs.Completing.{EndsInTime, NoneFailed};
 ghost use Rattle.mail_proxy.specs.Due.{IsDue, IsHindered};
 ghost use Rattle.mail_proxy.specs.Plans.{end_of};
 ghost use Rattle.mail_proxy.specs.Lines.{no_memory};
-ghost use Rattle.mail_proxy.specs.Reading.{Wrote};
+ghost use Rattle.base_cut.specs.Writing.{Wrote};
 ghost use Rattle.mail_proxy.specs.Runs.{Runs};
 ghost use Rattle.mail_proxy.specs.Texts.{End};
 
+use crate::audit::plan_audit;
 use crate::check::plan_check;
+use crate::cut::cut_to;
 use crate::grow::plan_grow;
 use crate::init::plan_init;
 use crate::plan::{LastLine, Plan, only_line, show, without_memory};
@@ -20,56 +23,77 @@ use crate::play::plan_play;
 use crate::script::plan_script;
 use crate::serve::plan_serve;
 use command_words::{Command, WordsRefused, one_reading, read_words};
+use cut_laws::cuts_open;
 use std::alloc::Global;
 use std::thread::Threads;
+use time_desk::laws::audits_settle_truth;
 use time_desk::one_opening;
 use undo_base::NoMemory;
 use undo_outside::{Disk, Gate, Link, Sink, Source};
 
-/// What the words come to.
-fn make_plan<R: Threads + Sync, S: Source, L: Link, D: Disk + Drop, G: Gate>(
-    rt: &R,
-    alloc: Global,
-    words: &Vec<String>,
-    text: &mut S,
-    link: &mut L,
-    disk: D,
-    gate: &G,
-) -> (Plan, D)
-    requires { (S.told text.old).ended ≡ false }
-    ensures answers { Answers D.told (map string_bytes words.now.items) (S.told text.old) (S.told text.new) (L.told link.old) (L.told link.new) disk (end_of result.0 result.1) }
-    ensures unread { uses_text (command_of (map string_bytes words.now.items)) ≡ false → text.new ≡ text.old }
-    ensures unlinked { uses_link (command_of (map string_bytes words.now.items)) ≡ false → link.new ≡ link.old }
+/// Writes what is planned, and answers the status and the disk.
+fn shown<D, W: Sink>(alloc: Global, planned: (Plan, D), out: &mut W) -> (u8, D)
+    ensures shows { Shows (end_of planned.0 planned.1).status (end_of planned.0 planned.1).output result.0 (W.told out.old) (W.told out.new) }
+    ensures disk { result.1 ≡ planned.1 }
 {
-    match read_words(alloc, words) {
-        Ok(command) => plan_command(rt, alloc, command, text, link, disk, gate),
-        Err(WordsRefused::Usage) => (only_line(alloc, 1, LastLine::Usage), disk),
-        Err(WordsRefused::NoMemory) => (only_line(alloc, 8, LastLine::NoMemory), disk),
-    }
+    let (plan, disk) = planned;
+    (show(alloc, &plan, out), disk)
 }
 
-/// What a command comes to.
-fn plan_command<R: Threads + Sync, S: Source, L: Link, D: Disk + Drop, G: Gate>(
+/// Does what a command is to do.
+fn do_command<R: Threads + Sync, S: Source, L: Link, D: Disk + Drop, W: Sink, G: Gate>(
     rt: &R,
     alloc: Global,
     command: Command,
     text: &mut S,
     link: &mut L,
     disk: D,
+    out: &mut W,
     gate: &G,
-) -> (Plan, D)
+) -> (u8, D)
     requires { (S.told text.old).ended ≡ false }
-    ensures does { Does D.told (Some command) (S.told text.old) (S.told text.new) (L.told link.old) (L.told link.new) disk (end_of result.0 result.1) }
+    ensures does { (end : End D) × Does D.told (Some command) (S.told text.old) (S.told text.new) (L.told link.old) (L.told link.new) result.0 (W.told out.old) (W.told out.new) disk end ×
+        Shows end.status end.output result.0 (W.told out.old) (W.told out.new) × (result.1 ≡ end.disk) }
     ensures unread { uses_text (Some command) ≡ false → text.new ≡ text.old }
     ensures unlinked { uses_link (Some command) ≡ false → link.new ≡ link.old }
 {
     match command {
-        Command::Init => plan_init(alloc, text, disk),
-        Command::Serve { .. } => plan_serve(rt, alloc, link, disk, gate),
-        Command::Script => plan_script(rt, alloc, text, disk, gate),
-        Command::Play => plan_play(rt, alloc, text, disk, gate),
-        Command::Grow { rounds } => (plan_grow(rt, alloc, rounds, gate), disk),
-        Command::Check => plan_check(alloc, disk),
+        Command::Init => shown(alloc, plan_init(alloc, text, disk), out),
+        Command::Serve { .. } => shown(alloc, plan_serve(rt, alloc, link, disk, gate), out),
+        Command::Script => shown(alloc, plan_script(rt, alloc, text, disk, gate), out),
+        Command::Play => shown(alloc, plan_play(rt, alloc, text, disk, gate), out),
+        Command::Grow { rounds } => shown(alloc, (plan_grow(rt, alloc, rounds, gate), disk), out),
+        Command::Check => shown(alloc, plan_check(alloc, disk), out),
+        Command::Cut { point } => cut_to(alloc, point, disk, out),
+        Command::Audit => shown(alloc, plan_audit(alloc, disk), out),
+    }
+}
+
+/// Does what the words say.
+fn do_words<R: Threads + Sync, S: Source, L: Link, D: Disk + Drop, W: Sink, G: Gate>(
+    rt: &R,
+    alloc: Global,
+    words: &Vec<String>,
+    text: &mut S,
+    link: &mut L,
+    disk: D,
+    out: &mut W,
+    gate: &G,
+) -> (u8, D)
+    requires { (S.told text.old).ended ≡ false }
+    ensures says { (end : End D) × Answers D.told (map string_bytes words.now.items) (S.told text.old) (S.told text.new) (L.told link.old) (L.told link.new) result.0 (W.told out.old) (W.told out.new) disk end ×
+        Shows end.status end.output result.0 (W.told out.old) (W.told out.new) × (result.1 ≡ end.disk) }
+    ensures unread { uses_text (command_of (map string_bytes words.now.items)) ≡ false → text.new ≡ text.old }
+    ensures unlinked { uses_link (command_of (map string_bytes words.now.items)) ≡ false → link.new ≡ link.old }
+{
+    match read_words(alloc, words) {
+        Ok(command) => do_command(rt, alloc, command, text, link, disk, out, gate),
+        Err(WordsRefused::Usage) => shown(alloc, (only_line(alloc, 1, LastLine::Usage), disk), out),
+        Err(WordsRefused::NoMemory) => shown(
+            alloc,
+            (only_line(alloc, 8, LastLine::NoMemory), disk),
+            out,
+        ),
     }
 }
 
@@ -87,7 +111,7 @@ pub fn run<R: Threads + Sync, S: Source, L: Link, D: Disk + Drop, W: Sink, G: Ga
     // The text is read from its beginning on, or at least not behind its end.
     requires { (S.told text.old).ended ≡ false }
     // The status, what is written and the disk are those of the words, the text, the disk and the machine's run over its events.
-    ensures says { (end : End D) × Answers D.told (map string_bytes words.now.items) (S.told text.old) (S.told text.new) (L.told link.old) (L.told link.new) disk end ×
+    ensures says { (end : End D) × Answers D.told (map string_bytes words.now.items) (S.told text.old) (S.told text.new) (L.told link.old) (L.told link.new) result.0 (W.told out.old) (W.told out.new) disk end ×
         Shows end.status end.output result.0 (W.told out.old) (W.told out.new) × (result.1 ≡ end.disk) }
     // When each status comes, and what is written then.
     ensures comes { Comes (command_of (map string_bytes words.now.items))
@@ -110,8 +134,9 @@ pub fn run<R: Threads + Sync, S: Source, L: Link, D: Disk + Drop, W: Sink, G: Ga
 {
     one_opening();
     one_reading();
-    let (plan, disk) = make_plan(rt, alloc, words, text, link, disk, gate);
-    (show(alloc, &plan, out), disk)
+    audits_settle_truth();
+    cuts_open();
+    do_words(rt, alloc, words, text, link, disk, out, gate)
 }
 
 /// The program's status, and the disk: does what the words say, where memory was found for them.

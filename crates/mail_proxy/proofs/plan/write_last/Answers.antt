@@ -1,7 +1,7 @@
 use Rattle.std.proofs.Common.{refl, sym, ◌∙◌}
 use Rattle.mail_proxy.specs.Lines.{line_text}
 use Rattle.mail_proxy.proofs.LastLines.{some_line}
-use Rattle.mail_proxy.proofs.Streams.{wrote_none}
+use Rattle.base_cut.proofs.Streams.{wrote_none}
 use Rattle.mail_proxy.proofs.plan.write_last.Goals as goal
 
 pub returns-in-Err : goal.returns-in-Err

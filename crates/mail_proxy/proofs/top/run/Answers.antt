@@ -1,7 +1,6 @@
-use Rattle.std.proofs.Common.{map, string_bytes, ap}
+use Rattle.std.proofs.Common.{ap, map, string_bytes, subst, sym, ◌≡◌, ◌∙◌, ◌⊎◌, false, ℕ}
 use Rattle.command_words.specs.Usage.{command_of}
-use Rattle.mail_proxy.specs.Causes.{Outside}
-use Rattle.mail_proxy.specs.Plans.{end_of}
+use Rattle.mail_proxy.specs.Causes.{Comes, Outside}
 use Rattle.mail_proxy.proofs.Causes.{comes, unused_disk}
 use Rattle.mail_proxy.proofs.Completing.{completes}
 use Rattle.mail_proxy.proofs.Due.{due}
@@ -13,37 +12,43 @@ returns-clause-comes g c =
     let text = g.S.Source.told in
     let link = g.L.Link.told in
     let out = g.W.Sink.told in
-    let plan = c.make_plan-plan.result in
+    let disk = g.D.Disk.told in
     let words = map string_bytes c.args.words.now.items in
-    comes g.D.Disk.told c.args.disk (end_of plan.0 plan.1) (text c.args.text.now) (text c.make_plan-plan.new.text) (link c.args.link.now) (link c.make_plan-plan.new.link)
-    (out c.args.out.now) (out c.show.new.out) c.show.result c.show.ensures
-    words (few_rounds c.one_reading.ensures words) (λ e. ap link {x = c.make_plan-plan.new.link} (c.make_plan-plan.ensures.unlinked e)) c.make_plan-plan.ensures.answers
+    let new = c.do_words.new in
+    let says = c.do_words.ensures.says in
+    let before : Outside = record { text = text c.args.text.now; link = link c.args.link.now; disk = disk c.args.disk; out = out c.args.out.now } in
+    subst (λ (d : g.row.D.Denot). Comes (command_of words) before (record { text = text new.text; link = link new.link; disk = disk d; out = out new.out }) c.do_words.result.0) (sym says.3)
+    (comes c.audits_settle_truth.ensures c.cuts_open.ensures.opens disk c.args.disk says.0 (text c.args.text.now) (text new.text) (link c.args.link.now) (link new.link)
+    (out c.args.out.now) (out new.out) c.do_words.result.0 says.2
+    words (few_rounds c.one_reading.ensures words) (λ e. ap link {x = new.link} (c.do_words.ensures.unlinked e)) says.1)
 
 pub returns-clause-disk : goal.returns-clause-disk
 returns-clause-disk g c =
     let text = g.S.Source.told in
     let link = g.L.Link.told in
-    let plan = c.make_plan-plan.result in
-    unused_disk g.D.Disk.told (map string_bytes c.args.words.now.items) (text c.args.text.now) (text c.make_plan-plan.new.text) (link c.args.link.now) (link c.make_plan-plan.new.link)
-    c.args.disk (end_of plan.0 plan.1) c.make_plan-plan.ensures.answers
+    let new = c.do_words.new in
+    let says = c.do_words.ensures.says in
+    λ unused. says.3 ∙ unused_disk g.D.Disk.told (map string_bytes c.args.words.now.items) (text c.args.text.now) (text new.text) (link c.args.link.now) (link new.link)
+    c.do_words.result.0 (g.W.Sink.told c.args.out.now) (g.W.Sink.told new.out) c.args.disk says.0 says.1 unused
 
 pub returns-clause-due : goal.returns-clause-due
 returns-clause-due g c k =
     let text = g.S.Source.told in
     let link = g.L.Link.told in
     let out = g.W.Sink.told in
-    let plan = c.make_plan-plan.result in
-    due g.D.Disk.told c.args.disk (end_of plan.0 plan.1) (text c.args.text.now) (text c.make_plan-plan.new.text) (link c.args.link.now) (link c.make_plan-plan.new.link)
-    (out c.args.out.now) (out c.show.new.out) c.show.result c.show.ensures k
-    c.one_opening.ensures (map string_bytes c.args.words.now.items) c.make_plan-plan.ensures.answers
+    let new = c.do_words.new in
+    let says = c.do_words.ensures.says in
+    due c.audits_settle_truth.ensures g.D.Disk.told c.args.disk says.0 (text c.args.text.now) (text new.text) (link c.args.link.now) (link new.link)
+    (out c.args.out.now) (out new.out) c.do_words.result.0 says.2 k
+    c.one_opening.ensures (map string_bytes c.args.words.now.items) says.1
 
 pub returns-clause-complete : goal.returns-clause-complete
 returns-clause-complete g c k is none time =
     let told : Outside = record { text = g.S.Source.told c.args.text.now; link = g.L.Link.told c.args.link.now; disk = g.D.Disk.told c.args.disk; out = g.W.Sink.told c.args.out.now } in
     let new : Outside = record {
-      text = g.S.Source.told c.make_plan-plan.new.text;
-      link = g.L.Link.told c.make_plan-plan.new.link;
-      disk = g.D.Disk.told (end_of c.make_plan-plan.result.0 c.make_plan-plan.result.1).disk;
-      out = g.W.Sink.told c.show.new.out;
+      text = g.S.Source.told c.do_words.new.text;
+      link = g.L.Link.told c.do_words.new.link;
+      disk = g.D.Disk.told c.do_words.result.1;
+      out = g.W.Sink.told c.do_words.new.out;
     } in
-    completes told new none (command_of (map string_bytes c.args.words.now.items)) c.show.result k (returns-clause-comes g c) time (returns-clause-due g c k is)
+    completes told new none (command_of (map string_bytes c.args.words.now.items)) c.do_words.result.0 k (returns-clause-comes g c) time (returns-clause-due g c k is)
