@@ -1,4 +1,4 @@
--- A fetching client's dialog is of a user and of keys, and what it asks can be recorded.
+-- A POP3 client's dialog is of a user and of keys, and what it asks can be recorded.
 use Rattle.std.proofs.Common.{◌≡◌, ℕ, zero, suc, ◌-◌, ◌≤◌, ◌<◌, Bool, true, false, cond, List, [], ◌∷◌, length, filter, Option, None, Some, Result, Ok, Err, nat_lt, ltb-true, slice_get, refl, arith}
 use Rattle.std.specs.Prelude.{IfSome, IsTrue, slice_set}
 use Rattle.std.specs.List.{AllByRecursion, Contains, list_any}
@@ -44,8 +44,8 @@ use Rattle.pop_session.specs.Dialog.{Took, asks, at_rest, done, done_in, ends, e
 use Rattle.pop_session.specs.Maildrop.{keys_of, maildrop_of, marked_keys, message_at, message_of, only_kept, with_mark, without_marks}
 use Rattle.verb_bytes.specs.Limits.{IsKey, IsUser}
 use Rattle.dialog_laws.specs.Ranges.{AreAllKeys, IsRecordable, IsStored, IsStoredEntry}
-use Rattle.dialog_laws.specs.MailReader.{AskedBy}
-use Rattle.dialog_laws.specs.FetchingClient.{AreKeyed, AsksRecordable, IsAwaited, IsFetching, IsPending, IsPlain, IsStaged, Line, Outcome, Taken, Text, asked_by, asked_in, turn_of}
+use Rattle.dialog_laws.specs.ImapClient.{AskedBy}
+use Rattle.dialog_laws.specs.PopClient.{AreKeyed, AsksRecordable, IsAwaited, IsFetching, IsPending, IsPlain, IsStaged, Line, Outcome, Taken, Text, asked_by, asked_in, turn_of}
 use Rattle.dialog_laws.proofs.Lists.{all_filtered, all_joined, all_mapped, either, member_has}
 use Rattle.dialog_laws.proofs.Boxes.{mail_stored}
 use Rattle.dialog_laws.proofs.Naming.{name_of_test}

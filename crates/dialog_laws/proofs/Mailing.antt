@@ -1,4 +1,4 @@
--- A mail client's dialog has names for recipients, and asks for deliveries of mail that can be stored.
+-- An SMTP client's dialog has names for recipients, and asks for deliveries of mail that can be stored.
 use Rattle.std.proofs.Common.{◌≡◌, ℕ, ◌≤◌, Bool, ◌↔◌, List, [], ◌∷◌, ◌++◌, length, Option, None, Some, Result, Ok, Err, refl, subst, arith, bytes_eq, nat_le, codes, option_map, unwrap_or}
 use Rattle.std.specs.List.{AllByRecursion, Contains, list_any}
 use Rattle.std.specs.Str.{str_to_ascii_lowercase}
@@ -20,11 +20,11 @@ use Rattle.smtp_session.specs.declared.dialog.Transaction.{Transaction}
 use Rattle.smtp_session.specs.declared.dialog.Transaction.TheVariants.{Idle, Begun, Writing, Due}
 use Rattle.smtp_session.specs.Body.{body_of}
 use Rattle.smtp_session.specs.Recipients.{put_once, is_here}
-use Rattle.smtp_session.specs.Dialog.{Turn, begin, end_text, has_recipient, host_due, obey, opening, receive, settle, told, told_fault, turn, turn_in, write}
+use Rattle.smtp_session.specs.Dialog.{DialogTurn, begin, end_text, has_recipient, host_due, obey, opening, receive, settle, told, told_fault, turn, turn_in, write}
 use Rattle.smtp_session.specs.Limits.{AsksWithin}
 use Rattle.smtp_session.proofs.Stays.{small_turn, asks_turn}
 use Rattle.verb_bytes.specs.Limits.{IsMail}
-use Rattle.dialog_laws.specs.MailClient.{HasNames, IsDelivery, IsMailing, IsTimely, Line, Outcome, Taken, asked_by, asked_in}
+use Rattle.dialog_laws.specs.SmtpClient.{HasNames, IsDelivery, IsMailing, IsTimely, Line, Outcome, Taken, asked_by, asked_in}
 use Rattle.dialog_laws.proofs.Lists.{all_joined, either, member_has}
 use Rattle.dialog_laws.proofs.Naming.{recipient_named}
 
@@ -61,7 +61,7 @@ once_named name to is h =
 
 -- ---- a turn keeps them
 
-abbrev Named : Turn → Type 0
+abbrev Named : DialogTurn → Type 0
 Named t = HasNames t.dialog.transaction
 
 named_begin : (house : House) (client : Option (List ℕ)) (t : Transaction) (path : List ℕ) → HasNames t → Named (begin house client t path)
@@ -140,7 +140,7 @@ AsksFor t Nothing = Unit {0}
 AsksFor t (Say text) = Unit {0}
 AsksFor t (Bye text) = Unit {0}
 
-abbrev For : Transaction → Turn → Type 0
+abbrev For : Transaction → DialogTurn → Type 0
 For t x = AsksFor t x.out
 
 for_begin : (house : House) (client : Option (List ℕ)) (s t : Transaction) (path : List ℕ) → For t (begin house client s path)

@@ -15,7 +15,7 @@ use Rattle.mail_loop.specs.Hindrance.{Hindrance}
 use Rattle.mail_loop.specs.State.{Seat, Http, Imap, Pop, Smtp, State}
 use Rattle.mail_loop.specs.Turns.{Heard, hears_seat, imap_turn, pop_turn, smtp_turn, turns}
 use Rattle.dialog_laws.specs.Joined.{both_heard, hears_all, hears_then, joined}
-use Rattle.dialog_laws.proofs.Stretches.{LinesGoOn, RestGoesOn, drop_none, events_join, fetching_events_join, reader_events_join}
+use Rattle.dialog_laws.proofs.Stretches.{LinesGoOn, RestGoesOn, drop_none, events_join, pop_client_events_join, reader_events_join}
 
 abbrev all_of : List (List ℕ) → List ℕ
 all_of more = flat_map (λ (piece : List ℕ). piece) more
@@ -36,7 +36,7 @@ module _ (stage : Stage) (at conn : ℕ) (P : Seat → Type 0)
       on_seat (hears_seat [] stage at s conn seat first) (hears_seat [] stage at s conn seat first).seat next more (leaves s seat p first) (λ t left q. all_join t left q next more)
       ∙ sym (two s seat p first (next ++ all_of more))
 
--- ---- a mail client's, a mail reader's, and a fetching client's
+-- ---- an SMTP client's, an IMAP client's, and a POP3 client's
 
 abbrev IsClient : Seat → Type 0
 IsClient (Smtp unserved d) = Unit {0}
@@ -44,7 +44,7 @@ IsClient (Imap stream d) = ⊥
 IsClient (Http came) = ⊥
 IsClient (Pop unserved d) = ⊥
 
--- a fetching client's
+-- a POP3 client's
 abbrev IsFetcher : Seat → Type 0
 IsFetcher (Smtp unserved d) = ⊥
 IsFetcher (Imap stream d) = ⊥
@@ -101,7 +101,7 @@ client_two lines rest stage at conn s (Pop unserved d) p first second = absurd p
 fetcher_two : LinesGoOn → RestGoesOn → (stage : Stage) (at conn : ℕ) (s : State) (seat : Seat) → IsFetcher seat → (first second : List ℕ)
     → hears_seat [] stage at s conn seat (first ++ second) ≡ joined (hears_seat [] stage at s conn seat first) (λ t left. hears_seat [] stage at t conn left second)
 fetcher_two lines rest stage at conn s (Pop unserved d) p first second =
-    fetching_events_join lines rest [] stage at conn s unserved d first second
+    pop_client_events_join lines rest [] stage at conn s unserved d first second
     ∙ ap (λ (hs : List Hindrance). joined (hears_seat [] stage at s conn (Pop unserved d) first) (λ t left. hears_seat hs stage at t conn left second)) (drop_none (length (smtp_lines_of (unserved ++ first))))
 fetcher_two lines rest stage at conn s (Smtp unserved d) p first second = absurd p
 fetcher_two lines rest stage at conn s (Imap stream d) p first second = absurd p

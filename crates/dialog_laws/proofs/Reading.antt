@@ -1,4 +1,4 @@
--- A mail reader's dialog is of a user, of names and of keys, and what it asks can be recorded.
+-- An IMAP client's dialog is of a user, of names and of keys, and what it asks can be recorded.
 use Rattle.std.proofs.Common.{◌≡◌, ℕ, ◌+◌, ◌≤◌, ◌<◌, Bool, true, false, cond, List, [], ◌∷◌, ◌++◌, length, slice_get, Option, None, Some, unwrap_or, Result, Ok, Err, nat_lt, ltb-true, refl, arith, length-append}
 use Rattle.std.specs.Prelude.{IfSome, IsTrue}
 use Rattle.std.specs.List.{AllByRecursion, Contains}
@@ -52,10 +52,10 @@ use Rattle.imap_session.specs.declared.words.Word.{Word}
 use Rattle.imap_session.specs.declared.words.Word.TheVariants as word
 use Rattle.imap_session.specs.Dialog.{Took, append, asks, at_rest, begin_fetch, begin_search, check, close, copy, copy_places, create, delete, done, enter, expunge, fetch_in, fetch_places, fetching, follow, heard, heard_in, hears, hears_reading, is_lost, list, login, obey, opening, rename, says, search, search_in, searching, select, settle, settle_in, settle_pending, status, store, store_places, subscribe, took, turn, undone, unselected, without_memory}
 use Rattle.imap_session.specs.Fetching.{ask_of, bodies_of}
-use Rattle.imap_session.specs.Searching.{all_places, finds, found, found_from, is_known_charset, is_vast, kept, keys_of, search_ask, search_bodies}
+use Rattle.imap_session.specs.Searching.{all_places, finds, found, found_from, is_known_charset, is_too_large, kept, keys_of, search_ask, search_bodies}
 use Rattle.verb_bytes.specs.Limits.{IsKey, IsUser}
 use Rattle.dialog_laws.specs.Ranges.{AreAllKeys, IsRecordable, IsStored, IsStoredEntry}
-use Rattle.dialog_laws.specs.MailReader.{AskedBy, AsksRecordable, Command, IsAwaited, IsPending, IsPlain, IsReading, IsShort, IsSpoken, IsViewed, IsWanted, Outcome, Taken, Texts, Unserved, asked_by, asked_in, turn_of}
+use Rattle.dialog_laws.specs.ImapClient.{AskedBy, AsksRecordable, Command, IsAwaited, IsPending, IsPlain, IsReading, IsShort, IsSpoken, IsViewed, IsWanted, Outcome, Taken, Texts, Unserved, asked_by, asked_in, turn_of}
 use Rattle.dialog_laws.proofs.Lists.{all_chosen, all_joined, all_mapped, either, found_has, member_has}
 use Rattle.dialog_laws.proofs.Boxes.{AreStored, mail_stored}
 use Rattle.dialog_laws.proofs.Naming.{name_of_test}
@@ -110,7 +110,7 @@ from_keyed q texts place (m ∷ rows) h = all_joined KeyOf (kept q texts place m
 found_keyed : (q : Searching) (texts : List (List ℕ)) → AllByRecursion KeyOf q.rows → AreAllKeys (keys_of (found q texts))
 found_keyed q texts h =
     all_mapped KeyOf IsKey (λ (m : Message). m.entry.key) (λ m k. k) (found q texts)
-    (either (λ (ms : List Message). AllByRecursion KeyOf ms) (is_vast q) [] (found_from q texts 0 q.rows) tt (from_keyed q texts 0 q.rows h))
+    (either (λ (ms : List Message). AllByRecursion KeyOf ms) (is_too_large q) [] (found_from q texts 0 q.rows) tt (from_keyed q texts 0 q.rows h))
 
 -- ---- what comes of a command
 

@@ -8,8 +8,8 @@ use Rattle.verb_core.specs.declared.conf.House.{House}
 use Rattle.verb_core.specs.Store as store
 use Rattle.smtp_session.specs.Dialog as client
 use Rattle.imap_session.specs.Dialog as reader
-use Rattle.dialog_laws.specs.MailClient as clients
-use Rattle.dialog_laws.specs.MailReader as readers
+use Rattle.dialog_laws.specs.SmtpClient as clients
+use Rattle.dialog_laws.specs.ImapClient as readers
 
 -- a house of one user, and its opening store
 abbrev house : House
@@ -27,7 +27,7 @@ conf = record { aliases = []; filters = [] }
 abbrev line : List ℕ → clients.Taken
 line bytes = clients.Line conf 0 (record { bytes = bytes; long = false })
 
--- a mail client that sends one message asks for one delivery
+-- an SMTP client that sends one message asks for one delivery
 one_delivery : length (clients.asked_in house client.opening (line (codes "HELO c") ∷ line (codes "MAIL FROM:<a@b>") ∷ line (codes "RCPT TO:<Ann@h>") ∷ line (codes "DATA") ∷ line (codes "Hi") ∷ line (codes ".") ∷ [])) ≡ 1
 unfolding spoken
 one_delivery = refl
@@ -40,7 +40,7 @@ no_delivery = refl
 abbrev command : List ℕ → readers.Taken
 command bytes = readers.Command (store.opening house conf) (λ body. None) false (record { lines = bytes ∷ []; literals = [] })
 
--- a mail reader that logs in and selects its INBOX, in any case, asks for it as user 0
+-- an IMAP client that logs in and selects its INBOX, in any case, asks for it as user 0
 one_ask : readers.asked_in house reader.opening (command (codes "a LOGIN ann x") ∷ command (codes "b SELECT inbox") ∷ []) ≡ record { user = Some (record { 0 = 0 }); ask = Select (codes "INBOX") } ∷ []
 unfolding what_in
 one_ask = refl

@@ -149,15 +149,15 @@ events_join lines rest hs stage at conn s unserved d first second =
     lines_join lines rest Smtp (smtp_turn at conn) hs s unserved d first second
     (λ t seat. hears_seat (drop (length (smtp_lines_of (unserved ++ first))) hs) stage at t conn seat second) (λ t e. refl)
 
--- a fetching client's
-pub fetching_events_join : LinesGoOn → RestGoesOn → (hs : List Hindrance) (stage : Stage) (at conn : ℕ) (s : State) (unserved : List ℕ) (d : PopDialog) (first second : List ℕ)
+-- a POP3 client's
+pub pop_client_events_join : LinesGoOn → RestGoesOn → (hs : List Hindrance) (stage : Stage) (at conn : ℕ) (s : State) (unserved : List ℕ) (d : PopDialog) (first second : List ℕ)
     → hears_seat hs stage at s conn (Pop unserved d) (first ++ second)
     ≡ joined (hears_seat hs stage at s conn (Pop unserved d) first) (λ t seat. hears_seat (drop (length (smtp_lines_of (unserved ++ first))) hs) stage at t conn seat second)
-fetching_events_join lines rest hs stage at conn s unserved d first second =
+pop_client_events_join lines rest hs stage at conn s unserved d first second =
     lines_join lines rest Pop (turn_of pop_session at conn) hs s unserved d first second
     (λ t seat. hears_seat (drop (length (smtp_lines_of (unserved ++ first))) hs) stage at t conn seat second) (λ t e. refl)
 
--- ---- a mail reader's
+-- ---- an IMAP client's
 
 -- a reader's turns, but for the one of what is not whole yet
 reader_heard : (at conn : ℕ) (s : State) (d : ImapDialog) (stream : Stream) → hears_commands [] at s conn d stream ≡ heard_by (Imap (emptied stream)) (turns (imap_turn at conn) [] s d stream.said)

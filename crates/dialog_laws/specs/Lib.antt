@@ -1,6 +1,6 @@
 pub mod Ranges
-pub mod MailClient
-pub mod MailReader
+pub mod SmtpClient
+pub mod ImapClient
 pub mod Joined
 pub mod Quits
-pub mod FetchingClient
+pub mod PopClient

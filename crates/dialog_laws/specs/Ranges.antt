@@ -63,7 +63,8 @@ names_made _ = []
 abbrev pub MakesNames : Item → Type 0
 MakesNames i = AllByRecursion IsName (names_made i.deed)
 
--- an item that keeps a store so: its number and its rev are in their ranges, it has as few keys as an item may have, and it makes mailboxes that have names
+-- An item that keeps a store so. Its number and its rev are in their ranges, it has as few keys as an item may have, and it makes mailboxes that have
+-- names.
 pub record IsKeeping (i : Item) : Type 0 where
   pub number : i.number ≤ 4294967295
   pub rev : i.rev ≤ 4294967295

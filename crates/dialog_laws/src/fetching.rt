@@ -1,4 +1,4 @@
-//! What a fetching client was told. This function does nothing but name a law: its contract is a law of the definitions.
+//! What a POP3 client was told. This function does nothing but name a law: its contract is a law of the definitions.
 ghost use Rattle.std.specs.Prelude.{◌≡◌, ℕ, Ok};
 ghost use Rattle.undo_base.specs.declared.keys.User.{User as TheUser};
 ghost use Rattle.smtp_lines.specs.declared.line.SmtpLine.{SmtpLine as TheLine};
@@ -19,8 +19,8 @@ ghost use Rattle.dialog_laws.specs.Quits.{OnlyGone};
 
 use pop_session::a_quit_removes_the_marked;
 
-/// A QUIT that is answered `+OK Bye.` has taken the messages out of INBOX that its client had marked and that were still there, and no
-/// other, and left every other mailbox as it was, whatever hindered it (RFC 1939, section 6).
+/// A QUIT that is answered `+OK Bye.` has taken the messages out of INBOX that its client had marked and that were still there. It has
+/// taken no other, and left every other mailbox as it was, whatever hindered it (RFC 1939, section 6).
 pub fn an_answered_quit_removed_the_marked()
     ensures { (h : Hindrance) (at : ℕ) (kept : Kept) (others : Seats) (d : TheFetcher) (line : TheLine) (u : TheUser) (drop : TheMaildrop) → d.stage ≡ Transaction u drop → command_of line ≡ Ok Quit →
         (hindered pop_session h at kept others d line).said ≡ answer_text Closing →

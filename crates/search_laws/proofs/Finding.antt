@@ -1,7 +1,7 @@
 -- What a SEARCH finds.
 use Rattle.std.proofs.Common.{◌≡◌, ℕ, ◌+◌, Bool, true, false, cond, List, [], ◌∷◌, ◌++◌, refl, ap, sym, ◌∙◌, if◌then◌else◌, length, map, filter, get_or, append_assoc, arith}
 use Rattle.imap_fetch.specs.declared.messages.Message.{Message}
-use Rattle.imap_session.specs.Searching.{facts_of, found, found_from, is_of_texts, is_vast, kept}
+use Rattle.imap_session.specs.Searching.{facts_of, found, found_from, is_of_texts, is_too_large, kept}
 use Rattle.imap_session.specs.declared.dialog.Searching.{Searching}
 use Rattle.search_verb.specs.Meets.{meets, needed}
 use Rattle.search_laws.proofs.Looking.{text_aside}
@@ -56,6 +56,6 @@ by_either q own texts true looks given = ap (λ ts. found_from q ts 0 q.rows) (g
 by_either q own texts false none given = by_none q own texts 0 q.rows none
 
 -- exactly those that match
-pub finds_those : (q : Searching) (own : Message → List ℕ) (texts : List (List ℕ)) → is_vast q ≡ false → (is_of_texts (needed q.key) ≡ true → texts ≡ map own q.rows)
+pub finds_those : (q : Searching) (own : Message → List ℕ) (texts : List (List ℕ)) → is_too_large q ≡ false → (is_of_texts (needed q.key) ≡ true → texts ≡ map own q.rows)
     → found q texts ≡ filter (matches q own) q.rows
 finds_those q own texts few given = rw few (by_either q own texts (is_of_texts (needed q.key)) refl given)

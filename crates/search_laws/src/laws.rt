@@ -7,7 +7,7 @@ ghost use Rattle.header_fields.specs.Fields.{fields_of};
 ghost use Rattle.header_fields.specs.Header.{empty_line_of};
 ghost use Rattle.header_fields.specs.Values.{is_named, value_of};
 ghost use Rattle.imap_fetch.specs.declared.messages.Message.{Message};
-ghost use Rattle.imap_session.specs.Searching.{facts_of, found, is_of_more, is_of_texts, is_vast, last_uid};
+ghost use Rattle.imap_session.specs.Searching.{facts_of, found, is_of_more, is_of_texts, is_too_large, last_uid};
 ghost use Rattle.imap_session.specs.declared.dialog.Searching.{Searching};
 ghost use Rattle.imap_stream.specs.Sets.{covered, greatest_of};
 ghost use Rattle.imap_stream.specs.declared.picks.SetRange.{SetRange};
@@ -25,8 +25,8 @@ pub fn what_is_not_looked_at_does_not_count()
     ensures size { (asked : Asked) (what : Facts) (size : ℕ) → is_of_more (needed asked) ≡ false → meets asked (record what { size = size }) ≡ meets asked what }
 {}
 
-/// What SEARCH looks at of a text is what FETCH shows of it (RFC 3501, 6.4.4 and 6.4.5): BODY at the section TEXT, TEXT at the whole,
-/// and a field's key at the values of those fields that HEADER.FIELDS with this one name shows.
+/// What SEARCH looks at of a text is what FETCH shows of it (RFC 3501, 6.4.4 and 6.4.5). BODY looks at the section TEXT, TEXT at the
+/// whole, and a field's key at the values that HEADER.FIELDS with this one name shows.
 pub fn searches_look_at_what_fetches_show()
     ensures body { (string : List ℕ) (what : Facts) → meets (sought.Body string) what ≡ occurs_in string (section_in section.Text what.text) }
     ensures text { (string : List ℕ) (what : Facts) → meets (sought.Text string) what ≡ occurs_in string (section_in section.Whole what.text) }
@@ -35,7 +35,7 @@ pub fn searches_look_at_what_fetches_show()
     ensures shown { (name text : List ℕ) → section_in (section.Fields (name ∷ [])) text ≡ joined (filter (is_listed (name ∷ [])) (fields_of text)) ++ empty_line_of text }
 {}
 
-/// A set means in a SEARCH what it means in a FETCH (RFC 3501, 6.4.4, 6.4.8 and 9): a message is among its places or its UIDs exactly
+/// A set means in a SEARCH what it means in a FETCH (RFC 3501, 6.4.4, 6.4.8 and 9). A message is among its places or its UIDs exactly
 /// where the set covers its number, and `*` is the same greatest UID of the view.
 pub fn sets_mean_the_same_in_searches_and_fetches()
     ensures places { (set : List SetRange) (what : Facts) → meets (sought.Places (map range_of set)) what ≡ covered what.last_place set what.place }
@@ -43,9 +43,9 @@ pub fn sets_mean_the_same_in_searches_and_fetches()
     ensures last { (view : List Known) → last_uid view ≡ greatest_of true (map (λ (known : Known). known.uid) view) }
 {}
 
-/// A SEARCH finds exactly the messages of the view that are there and match, each by its own text, in the view's order; the texts that
+/// A SEARCH finds exactly the messages of the view that are there and match, each by its own text, in the view's order. The texts that
 /// it was given are theirs where it looks at texts (RFC 3501, 6.4.4).
 pub fn searches_find_what_matches()
-    ensures { (q : Searching) (own : Message → List ℕ) (texts : List (List ℕ)) → is_vast q ≡ false → (is_of_texts (needed q.key) ≡ true → texts ≡ map own q.rows)
+    ensures { (q : Searching) (own : Message → List ℕ) (texts : List (List ℕ)) → is_too_large q ≡ false → (is_of_texts (needed q.key) ≡ true → texts ≡ map own q.rows)
         → found q texts ≡ filter (λ (m : Message). meets q.key (facts_of q m (own m))) q.rows }
 {}

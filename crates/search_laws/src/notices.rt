@@ -16,8 +16,9 @@ ghost use Rattle.imap_session.specs.declared.dialog.Searching.{Searching};
 ghost use Rattle.search_laws.specs.Notices.{all_stay, search_deed, sights_in};
 
 /// A SEARCH is kept as a FETCH of the messages that it found, and has shown those of them that were there. Where it stands behind a
-/// cycle's point, there is a reason to tell of it exactly where it is dropped, or where one of the messages that it has shown is not
-/// in its mailbox at its place of the new timeline, or has another text there and the SEARCH looked at texts or at sizes.
+/// cycle's point, there is a reason to tell of it exactly where it is dropped, or where one of the messages that it has shown has
+/// changed. That is, it is not in its mailbox at its place of the new timeline, or has another text there and the SEARCH looked at
+/// texts or at sizes.
 pub fn searches_are_told_of_by_what_they_showed()
     ensures kept { (s : MailStore) (number at : ℕ) (by : Option User) (q : Searching) (texts : List (List ℕ)) (deep : Bool) (item : Item) → live s number at by (search_ask q texts) deep ≡ Ok item →
         (item.by ≡ by) × (item.deed ≡ search_deed q texts) × (item.shown ≡ Seen (sights_in s by q texts)) }

@@ -1,5 +1,6 @@
 pub mod Members
 pub mod Splits
+pub mod Fronts
 pub mod Runs
 pub mod Steps
 pub mod Standing

@@ -1,14 +1,15 @@
--- What the first record of a journal has and each further one keeps, all its records have.
+-- What the records have that a journal opens with, and each further one keeps, all its records have.
 use Rattle.std.proofs.Common.{◌≡◌, List, [], ◌∷◌, ◌++◌, Option, Some, None, refl, ap, sym, subst, ◌∙◌, append_assoc, append-nil}
 use Rattle.std.specs.Prelude.{option_and_then}
 use Rattle.verb_bytes.specs.declared.journal.JournalRecord.{JournalRecord}
 use Rattle.store_kept.specs.Kept.{Kept}
-use Rattle.desk_journal.specs.Records.{after_record, after_records, first_state, state}
-use Rattle.desk_journal.proofs.Runs.{state_append}
+use Rattle.desk_journal.specs.Records.{after_record, after_records, behind as behind_front, front, opening_state, state}
+use Rattle.desk_journal.proofs.Fronts.{front_alone, two_parts}
+use Rattle.desk_journal.proofs.Runs.{state_then}
 
 -- one more record
 pub one_more : (done : List JournalRecord) (r : JournalRecord) (kept next : Kept) → state done ≡ Some kept → after_record kept r ≡ Some next → state (done ++ r ∷ []) ≡ Some next
-one_more done r kept next is e = state_append done (r ∷ []) kept is ∙ ap (option_and_then (λ (k : Kept). after_records k [])) e
+one_more done r kept next is e = state_then done (r ∷ []) kept next is (ap (option_and_then (λ (k : Kept). after_records k [])) e)
 
 module _ (P : List JournalRecord → Kept → Type 0) where
   -- each further record keeps it
@@ -27,10 +28,11 @@ module _ (P : List JournalRecord → Kept → Type 0) where
       by None f e go = absurd (cc e)
       by (Some next) f e go = go next f e
 
-  pub along : ((r : JournalRecord) (kept : Kept) → first_state r ≡ Some kept → P (r ∷ []) kept) → IsLasting → (records : List JournalRecord) (last : Kept) → state records ≡ Some last → P records last
-  along first step [] last e = absurd (cc e)
-  along first step (r ∷ rs) last e = by (first_state r) refl e
+  pub along : ((records : List JournalRecord) (kept : Kept) → opening_state (front records) ≡ Some kept → P (front records) kept) → IsLasting → (records : List JournalRecord) (last : Kept) → state records ≡ Some last → P records last
+  along first step records last e = by (opening_state (front records)) refl e
     where
-      by : (o : Option Kept) → first_state r ≡ o → option_and_then (λ (k : Kept). after_records k rs) o ≡ Some last → P (r ∷ rs) last
+      by : (o : Option Kept) → opening_state (front records) ≡ o → option_and_then (λ (k : Kept). after_records k (behind_front records)) o ≡ Some last → P records last
       by None f e = absurd (cc e)
-      by (Some kept) f e = behind step rs (r ∷ []) kept last (ap (option_and_then (λ (k : Kept). after_records k [])) f) (first r kept f) e
+      by (Some kept) f e =
+          subst (λ (xs : List JournalRecord). P xs last) (two_parts records)
+          (behind step (behind_front records) (front records) kept last (front_alone records kept f) (first records kept f) e)

@@ -9,16 +9,17 @@ use Rattle.verb_core.specs.Deeds.{act_item}
 use Rattle.verb_bytes.specs.declared.journal.JournalRecord.{JournalRecord}
 use Rattle.verb_bytes.specs.declared.journal.JournalRecord.TheVariants.{Verb, Operator, Cycle, Snapshot, Upgrade, Withdraw}
 use Rattle.withdraw.specs.declared.undone.UndoneBehind.{UndoneBehind}
-use Rattle.store_kept.specs.Kept.{Kept, new_desk, not_behind, passed, performed, placed, snapshotted, undone_as}
+use Rattle.store_kept.specs.Kept.{Kept, Marks, not_behind, passed, performed, placed, snapshotted, undone_as}
 use Rattle.cycle_rules.specs.Cycles.{cycled_at}
 use Rattle.cycle_rules.specs.Withdrawals.{withdrawn_at}
-use Rattle.desk_journal.specs.Records.{first_state, is_true, place_rewound_to, state}
+use Rattle.desk_journal.specs.Records.{front, is_true, opening_state, place_rewound_to, state}
 use Rattle.desk_journal.proofs.Upgrading.{upgrade_is}
 use Rattle.snapshot_laws.specs.Usable.{GoesNoLower, IsUsable}
 use Rattle.snapshot_laws.proofs.Members.{In, Rises, placed_is, placed_itself, placed_others, rises_not_behind, rises_placed, stayed, stays}
 use Rattle.snapshot_laws.proofs.Runs.{IsLasting, along}
+use Rattle.snapshot_laws.proofs.Fronts.{no_snapshot_among, opens}
 use Rattle.snapshot_laws.proofs.Splits.{IsBehind, IsThere, splits_end}
-use Rattle.snapshot_laws.proofs.Steps.{cycled_is, cycled_within, is_first, kept_is, performed_is, withdrawn_is, withdrawn_within}
+use Rattle.snapshot_laws.proofs.Steps.{cycled_is, cycled_within, kept_is, performed_is, withdrawn_is, withdrawn_within}
 
 -- places rise, none is behind so many items, and they are those of the usable snapshots
 pub record StandsAt (records : List JournalRecord) (places : List ℕ) (count : ℕ) : Type 0 where
@@ -252,24 +253,21 @@ stands_more done kept (Withdraw number at key of) next is stands e =
     })
 stands_more done kept _ next is stands e = absurd (cc e)
 
--- the first record is no snapshot
-stands_first : (r : JournalRecord) (kept : Kept) → first_state r ≡ Some kept → Stands (r ∷ []) kept
-stands_first r kept e = let first = is_first r kept e in subst (Stands (r ∷ [])) first.kept_is (empty first.house first.conf)
+-- none of the records that a journal opens with is a snapshot
+stands_first : (records : List JournalRecord) (kept : Kept) → opening_state (front records) ≡ Some kept → Stands (front records) kept
+stands_first records kept e =
+    let is = opens records kept e in
+    record {
+      marks = subst (λ (m : Marks). StandsAt (front records) m.places (length kept.timeline)) (sym is.marks) empty;
+      undone = subst (PointWithin (length kept.timeline)) (sym is.undone) tt;
+    }
   where
-    none : (n : ℕ) (front : List JournalRecord) (conf : Conf) (rows : List (BoxId × Mailbox)) (rest : List JournalRecord) (k : Kept) → state front ≡ Some k → r ∷ [] ≡ front ++ Snapshot n conf rows ∷ rest → ⊥
-    none n [] conf rows rest k s split = cc s
-    none n (f ∷ []) conf rows rest k s split = cc split
-    none n (f ∷ g ∷ front) conf rows rest k s split = cc split
-
-    empty : (house : House) (conf : Conf) → Stands (r ∷ []) (new_desk house conf)
-    empty house conf = record {
-      marks = record {
-        rises = tt;
-        within = λ n wrong. absurd wrong;
-        usable = λ n wrong. absurd wrong;
-        there = λ n u. absurd (none n u.before u.conf u.rows u.after u.kept u.state_is u.split);
-      };
-      undone = tt;
+    empty : StandsAt (front records) [] (length kept.timeline)
+    empty = record {
+      rises = tt;
+      within = λ n wrong. absurd wrong;
+      usable = λ n wrong. absurd wrong;
+      there = λ n u. absurd (no_snapshot_among records u.before u.after n u.conf u.rows u.kept u.state_is u.split);
     }
 
 pub stands : (records : List JournalRecord) (kept : Kept) → state records ≡ Some kept → StandsAt records kept.marks.places (length kept.timeline)

@@ -1,20 +1,18 @@
 -- What each kind of record leaves, where it can stand.
 use Rattle.std.proofs.Common.{◌≡◌, ℕ, ◌+◌, ◌≤◌, ◌==◌, Bool, true, false, ◌&&◌, cond, List, ◌++◌, drop, length, map, take, Option, Some, None, refl, arith, eqb-true, length-append, length-take-le}
 use Rattle.verb_core.specs.declared.conf.Conf.{Conf}
-use Rattle.verb_core.specs.declared.conf.House.{House}
 use Rattle.verb_core.specs.declared.item.Item.{Item}
 use Rattle.verb_core.specs.declared.item.Shown.{Shown}
 use Rattle.verb_core.specs.declared.mailbox.BoxId.{BoxId}
 use Rattle.verb_core.specs.declared.mailbox.Mailbox.{Mailbox}
 use Rattle.verb_bytes.specs.declared.journal.CycleAsk.{CycleAsk}
 use Rattle.verb_bytes.specs.declared.journal.JournalRecord.{JournalRecord}
-use Rattle.verb_bytes.specs.declared.journal.JournalRecord.TheVariants.{Format, Cycle, Snapshot, Withdraw}
+use Rattle.verb_bytes.specs.declared.journal.JournalRecord.TheVariants.{Cycle, Snapshot, Withdraw}
 use Rattle.box_store.specs.Making.{makes_store}
-use Rattle.house_text.specs.Beginning.{can_begin}
 use Rattle.paradox.specs.declared.reports.Report.{Report}
 use Rattle.withdraw.specs.declared.undone.UndoneBehind.{UndoneBehind}
 use Rattle.withdraw.specs.Unediting.{as_shown}
-use Rattle.store_kept.specs.Kept.{Kept, new_desk, performed, report_of, undone_of}
+use Rattle.store_kept.specs.Kept.{Kept, performed, report_of, undone_of}
 use Rattle.repair_desk.specs.Repairs.{inserted, kept as kept_of, position, repaired}
 use Rattle.repair_desk.proofs.Points.{within}
 use Rattle.cycle_rules.specs.Asking.{NoNumbers, Rewinds, after_cycle, cycle_due, due_at, due_by}
@@ -23,23 +21,7 @@ use Rattle.cycle_rules.specs.Judging.{shown_after}
 use Rattle.cycle_rules.specs.Repairing.{compared_in, leaves_numbers_for, timeline_in, told_in}
 use Rattle.cycle_rules.specs.Withdrawals.{after_withdrawal, unedit_of, withdraw_due, withdraw_due_at, withdrawn_at}
 use Rattle.mail_cycle.proofs.Cycled.{length_shown}
-use Rattle.desk_journal.specs.Records.{after_cycle_record, after_due, after_item, after_kept, after_snapshot, after_withdraw_record, can_follow, can_rewind, first_state, is_spelled}
-
--- ---- the first
-
-pub record IsFirst (r : JournalRecord) (kept : Kept) : Type 0 where
-  pub house : House
-  pub conf : Conf
-  pub record_is : r ≡ Format house conf
-  pub kept_is : new_desk house conf ≡ kept
-
-pub is_first : (r : JournalRecord) (kept : Kept) → first_state r ≡ Some kept → IsFirst r kept
-is_first (Format house conf) kept e = by (is_spelled (Format house conf) && can_begin house conf) e
-  where
-    by : (b : Bool) → cond b (Some (new_desk house conf)) None ≡ Some kept → IsFirst (Format house conf) kept
-    by true e = record { house = house; conf = conf; record_is = refl; kept_is = cc e }
-    by false e = absurd (cc e)
-is_first _ kept e = absurd (cc e)
+use Rattle.desk_journal.specs.Records.{after_cycle_record, after_due, after_item, after_kept, after_snapshot, after_withdraw_record, can_follow, can_rewind, is_spelled}
 
 -- ---- an item
 

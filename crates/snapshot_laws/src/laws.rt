@@ -1,6 +1,6 @@
 //! These functions do nothing: their contracts are laws of the definitions.
-ghost use Rattle.std.specs.Prelude.{◌≡◌, ◌⊎◌, ℕ, ◌+◌, ◌≤◌, List, ◌∷◌, ◌++◌, length, Some};
-ghost use Rattle.std.specs.List.{Contains};
+ghost use Rattle.std.specs.Prelude.{◌≡◌, ◌⊎◌, ℕ, ◌+◌, ◌≤◌, List, ◌∷◌, ◌++◌, false, length, Some};
+ghost use Rattle.std.specs.List.{Contains, list_any};
 ghost use Rattle.std.specs.List.Sorted.{IsStrictlyIncreasing};
 ghost use Rattle.verb_core.specs.declared.conf.Conf.{Conf};
 ghost use Rattle.verb_core.specs.declared.mailbox.BoxId.{BoxId};
@@ -8,7 +8,7 @@ ghost use Rattle.verb_core.specs.declared.mailbox.Mailbox.{Mailbox};
 ghost use Rattle.verb_bytes.specs.declared.journal.JournalRecord.{JournalRecord};
 ghost use Rattle.verb_bytes.specs.declared.journal.JournalRecord.TheVariants.{Snapshot};
 ghost use Rattle.store_kept.specs.Kept.{Kept, newest_at};
-ghost use Rattle.desk_journal.specs.Records.{state};
+ghost use Rattle.desk_journal.specs.Records.{goes_on, state};
 ghost use Rattle.snapshot_laws.specs.Usable.{IsUsable, rewinds_in, snapshots_in};
 
 /// Of places that rise, `newest_at` is the last that is not behind the given one, or 0.
@@ -30,7 +30,7 @@ pub fn places_are_the_usable_snapshots()
     ensures there { (records : List JournalRecord) (kept : Kept) → state records ≡ Some kept → (n : ℕ) → IsUsable records n → Contains kept.marks.places n }
 {}
 
-/// A cycle at a place, or a withdrawal of one there, begins from the last usable snapshot that is not behind it, or from the opening store: `newest_at` tells
+/// A cycle at a place, or a withdrawal of one there, begins from the last usable snapshot that is not behind it, or from the base: `newest_at` tells
 /// behind how many items.
 pub fn cycles_begin_from_the_last_usable_snapshot()
     ensures usable { (records : List JournalRecord) (kept : Kept) (place : ℕ) → state records ≡ Some kept →
@@ -40,12 +40,14 @@ pub fn cycles_begin_from_the_last_usable_snapshot()
         (n : ℕ) → IsUsable records n → n ≤ place → n ≤ newest_at place kept.marks.places }
 {}
 
-/// The snapshots that are counted are the Snapshot records. The items that are counted as having entered since the last of these,
-/// or since the beginning, are as many as the numbers that were given since, but for those of the cycles and of the withdrawals.
+/// The snapshots that are counted are the Snapshot records. Items are counted as having entered since the last of these, or since
+/// the beginning. They are as many as the numbers that were given since, but for those of the cycles and of the withdrawals. At
+/// the beginning the next number is the house's first, or that of the base where a past was cut off.
 pub fn counts_are_the_records()
     ensures taken { (records : List JournalRecord) (kept : Kept) → state records ≡ Some kept → kept.marks.taken ≡ snapshots_in records }
     ensures since { (before after : List JournalRecord) (items : ℕ) (conf : Conf) (rows : List (BoxId × Mailbox)) (then kept : Kept) → state before ≡ Some then →
         state (before ++ Snapshot items conf rows ∷ after) ≡ Some kept → snapshots_in after ≡ 0 → then.next + rewinds_in after + kept.marks.since ≡ kept.next }
     ensures first { (records : List JournalRecord) (kept : Kept) → state records ≡ Some kept → snapshots_in records ≡ 0 →
-        kept.house.first + rewinds_in records + kept.marks.since ≡ kept.next }
+        kept.first + rewinds_in records + kept.marks.since ≡ kept.next }
+    ensures house { (records : List JournalRecord) (kept : Kept) → state records ≡ Some kept → list_any goes_on records ≡ false → kept.first ≡ kept.house.first }
 {}

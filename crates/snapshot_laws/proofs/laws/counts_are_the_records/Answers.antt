@@ -1,5 +1,5 @@
 -- Along the records.
-use Rattle.snapshot_laws.proofs.Counting.{since_first, since_snapshot, taken_are}
+use Rattle.snapshot_laws.proofs.Counting.{houses, since_first, since_snapshot, taken_are}
 use Rattle.snapshot_laws.proofs.laws.counts_are_the_records.Goals as goal
 
 pub returns-clause-taken : goal.returns-clause-taken
@@ -10,3 +10,6 @@ returns-clause-since c = λ before after items conf rows then kept is e none. si
 
 pub returns-clause-first : goal.returns-clause-first
 returns-clause-first c = since_first
+
+pub returns-clause-house : goal.returns-clause-house
+returns-clause-house c = houses

@@ -1,0 +1,10 @@
+pub mod Founded
+pub mod Parts
+pub mod Cut
+pub mod States
+pub mod Fates
+pub mod Lasting
+pub mod Spelled
+pub mod Openings
+pub mod Sizes
+pub mod Stopped
