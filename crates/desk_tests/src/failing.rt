@@ -9,8 +9,8 @@ use time_desk::{ActFault, CycleFault, Desk, WithdrawFault};
 use undo_outside::{MemDisk, OpenGate};
 use verb_core::SubmitFault;
 
-/// Whether a cycle is not sealed and closes the desk: one under a new key is not done any more, one under a key that a cycle
-/// had is answered as it was, whatever it asks, and one can be tried.
+/// Whether a cycle is not sealed and closes the desk. One under a new key is not done any more; one under a key that a cycle had
+/// is answered as it was, whatever it asks; and one can be tried.
 fn answers<R: Threads + Sync>(
     rt: &R,
     alloc: Global,
@@ -28,8 +28,8 @@ fn answers<R: Threads + Sync>(
     )
 }
 
-/// Whether a withdrawal is not sealed and closes the desk: one is not done any more, also where the cycle is not there, and one
-/// under a key that a cycle had is answered as that was, whatever it asks.
+/// Whether a withdrawal is not sealed and closes the desk. One is not done any more, also where the cycle is not there. One under
+/// a key that a cycle had is answered as that was, whatever it asks.
 fn withdraws_no_more<R: Threads + Sync>(
     rt: &R,
     alloc: Global,

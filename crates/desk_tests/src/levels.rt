@@ -21,8 +21,8 @@ fn fill(alloc: Global, desk: &mut Desk<MemDisk>, first: u32, end: u32) -> Result
     Ok(all)
 }
 
-/// Whether a cycle from a point has a number, and its workers pass the gate once for each item from the first on and below the
-/// end, and for no other below the number.
+/// Whether a cycle from a point has a number. Its workers pass the gate once for each item from the first on and below the end,
+/// and for no other below the number.
 fn passes<R: Threads + Sync>(
     rt: &R,
     alloc: Global,
@@ -95,8 +95,8 @@ fn items_behind_a_snapshot_are_worked_out_side_by_side(rt: HostRuntime) -> Resul
     Ok(())
 }
 
-/// Whether cycles over ten mails, a snapshot and three mails more let the kept items alone pass: one that begins at the
-/// snapshot's place, one at a later point, one whose point is the last item, and one before the snapshot.
+/// Whether cycles over ten mails, a snapshot and three mails more let the kept items alone pass. One begins at the snapshot's
+/// place, one at a later point, one's point is the last item, and one lies before the snapshot.
 fn passes_kept_alone<R: Threads + Sync>(
     rt: &R,
     alloc: Global,
