@@ -9,7 +9,7 @@ files       files on this side: each 0600, and whole or absent
 journal     the journal's file: gates, frames and records; never written
 spelling    records as they are written; journal the other way round
 model       what items and cycles do to a store (docs/MODEL.md), so that a journal can be read to its end
-cutting     what a cut of a store writes, and what an audit of one says
+cutting     what a cut of a store writes and would save, and what an audit of one says
 history     what a journal tells: who got, saw, copied and lost what, and what a cycle would do to each
 told        what a person reads
 page        the page and its server

@@ -4,7 +4,8 @@ Nothing here opens a store for writing: the octets of a cut are given to whoever
 """
 from __future__ import annotations
 
-from typing import Any, Iterator, Optional
+from bisect import bisect_left
+from typing import Any, Callable, Iterator, NamedTuple, Optional
 
 from .journal import ENTRY, Base, Deliver, Frame, Journal, Kept, SnapshotBox, Stamp, Text, Verb
 from .model import Item, MailStore, Outcome, Past
@@ -58,6 +59,39 @@ def payloads_of_cut(past: Past, point: int) -> Iterator[bytes]:
 def cut(past: Past, point: int) -> bytes:
     """The file of a cut; NoPoint where the point is neither 0 nor the number of an item in force."""
     return b''.join(written(payloads_of_cut(past, point)))
+
+
+# ---- what a cut would leave ----
+
+DAY = 86_400
+
+
+class Prospect(NamedTuple):
+    """What a cut at a point would leave."""
+
+    point: int
+    items: int  # that stay
+    octets: int  # of the file
+
+
+def prospect(past: Past, place: int) -> Prospect:
+    """That of a cut behind so many items in force."""
+    point = past.timeline[place - 1] if place else 0
+    return Prospect(point, len(past.timeline) - place, 1 + sum(5 + len(it) for it in payloads_of_cut(past, point)))
+
+
+def prospects(past: Past, now: int, days: tuple[int, ...], tell: Callable[[str], None] = lambda said: None) -> list[tuple[Optional[int], Prospect]]:
+    """Cuts that keep the items of so many last days, and one behind the last item (no days); each point once, the earliest first."""
+    moments = [past.item(number).at for number in past.timeline]
+    for place in range(1, len(moments)):
+        moments[place] = max(moments[place], moments[place - 1])
+    found: list[tuple[Optional[int], Prospect]] = []
+    for count in (None, *days):
+        place = len(moments) if count is None else bisect_left(moments, now - count * DAY)
+        if place and all(len(moments) - it.items != place for _, it in found):
+            tell(f'a cut behind {place:,} items')
+            found.append((count, prospect(past, place)))
+    return sorted(found, key=lambda it: -it[1].items)
 
 
 # ---- an audit ----

@@ -3,11 +3,13 @@ from __future__ import annotations
 
 import json
 import sys
+import time
 from typing import Any, Callable, Optional
 
 from .common import Words, drafted, show, store_of, wanted_of
 from .console import Item as Row
 from .console import Wanted
+from .cutting import DAY, prospects
 from .history import (FLAGS_ALONE, LOOK_WORDS, LOOKED, READ, Delivery, Read, Telling, addressed_to, opened, read, reading, some, touched_by, who_read)
 from .journal import ENTRY, Base, Cycle, Format, Journal, SetFilter, Text, Upgrade, Withdraw
 from .mail import Message, text_of
@@ -28,6 +30,29 @@ def counts(words: Words, journal: Journal) -> int:
     past = read(journal, tell=words.progress)
     data = {**past.counts(), 'digest': past.digest(), 'octets': journal.end + 1, 'snapshots': past.snapshots}
     show(words, data, '\n'.join(f'{name} {value}' for name, value in data.items()))
+    return 0
+
+
+WORTH_IT = 30  # of a hundred octets, that a cut is to save
+
+
+def do_cuts(words: Words) -> int:
+    """What cuts would leave of a journal, and whether one is worth it. Nothing is cut here: operate/cut does that."""
+    with opened(store_of(words, words.journal)) as journal:
+        past = read(journal, tell=words.progress)
+        octets, now = journal.end + 1, int(time.time())
+        found = prospects(past, now, tuple(words.days or (30, 90, 365)), words.progress)
+        oldest = past.item(past.timeline[0]).at if past.timeline else None
+    rows = [{'days': days, 'point': it.point, 'items': it.items, 'octets': it.octets, 'saved': round(100 * (octets - it.octets) / octets)} for days, it in found]
+    best = max((row['saved'] for row in rows), default=0)
+    said = [f'The journal has {octets:,} octets, and {counted(len(past.timeline), "item")} in force'
+            + (f', the oldest of {local(oldest)[:10]}, {counted(max(0, now - oldest) // DAY, "day")} ago.' if oldest is not None else '.')]
+    if rows:
+        said += ['', table(['cut at', 'keeps the items of', 'items', 'octets', 'saves'],
+                           ([row['point'], 'none' if row['days'] is None else f'the last {counted(row["days"], "day")}', f'{row["items"]:,}', f'{row["octets"]:,}', f'{row["saved"]} of a hundred'] for row in rows)), '']
+        said.append(f'A cut is worth it: it saves up to {best} of a hundred octets. Next, once nobody serves the store: operate/cut STORE POINT' if best >= WORTH_IT
+                    else f'A cut is hardly worth it: it saves {max(best, 0)} of a hundred octets.')
+    show(words, {'octets': octets, 'items': len(past.timeline), 'oldest': oldest, 'cuts': rows, 'worth_it': best >= WORTH_IT}, '\n'.join(said))
     return 0
 
 

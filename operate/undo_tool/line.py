@@ -13,7 +13,7 @@ from .common import Words
 from .console import Console
 from .cycle_commands import do_draft, do_give_back, do_run, do_try, do_withdraw
 from .formats import BODY, HEADER, LARGEST_NUMBER, RECIPIENT, SENDER
-from .journal_commands import do_history, do_to, do_touched_by, do_who_read
+from .journal_commands import do_cuts, do_history, do_to, do_touched_by, do_who_read
 from .many import spread
 from .moments import moment
 from .told import Progress
@@ -222,6 +222,9 @@ def past_words(command: Callable[..., argparse.ArgumentParser]) -> None:
     item_words(it)
     it.add_argument('--item', type=number, metavar='N', help='one record alone')
     it.add_argument('--counts', action='store_true', help='what the journal leaves, as `undomail check` tells it')
+    it = command('cuts', do_cuts, 'what cuts of a journal would leave, and whether one is worth it; it cuts nothing (operate/cut does)')
+    it.add_argument('journal', metavar='STORE', nargs='?', help='its file (else --store)')
+    it.add_argument('--days', type=number, action='append', metavar='N', help='a cut that keeps the items of the last N days (30, 90 and 365)')
     it = command('who-read', do_who_read, 'who was shown the text of an item, who copied it, and where it lies')
     it.add_argument('number', type=number, metavar='ITEM')
     journal_words(it, 'it')

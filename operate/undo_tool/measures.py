@@ -29,6 +29,7 @@ class Measures:
     disk: Optional[int] = None
     snapshot: Optional[int] = None  # items behind which the last one stands
     behind: Optional[int] = None  # items in force that entered since
+    oldest: Optional[int] = None  # the moment of the first item in force
     connections: Optional[dict[int, int]] = None
 
     def left(self) -> int:
@@ -49,6 +50,8 @@ class Measures:
             said.append(f'The journal has {self.octets:,} octets, and its disk has {self.room:,} left of {self.disk:,}.')
         if self.octets is not None:
             said.append(f'The last snapshot is of {self.snapshot:,} items, {counted(self.behind, "item")} ago.' if self.snapshot is not None else 'There is no snapshot.')
+        if self.octets is not None and self.oldest is not None:
+            said.append(f'The oldest item in force is of {local(self.oldest)[:10]}: what a cut would save, `undo cuts` tells.')
         if self.connections is not None:
             said.append(f'Connections: {", ".join(f"{count} at port {port}" for port, count in self.connections.items())}; the server takes {SEATS:,}.')
         return said
@@ -68,7 +71,7 @@ class Measures:
 
     def as_data(self) -> dict[str, Any]:
         return {'left': self.left(), 'share': round(self.share(), 2), 'day': self.day, 'week': self.week, 'ends_by_day': self.ends(self.day, DAY), 'ends_by_week': self.ends(self.week, WEEK),
-                'octets': self.octets, 'room': self.room, 'disk': self.disk, 'snapshot': self.snapshot, 'behind': self.behind, 'connections': self.connections}
+                'octets': self.octets, 'room': self.room, 'disk': self.disk, 'snapshot': self.snapshot, 'behind': self.behind, 'oldest': self.oldest, 'connections': self.connections}
 
     def metrics(self) -> str:
         """Prometheus's text, version 0.0.4."""
@@ -100,6 +103,8 @@ def measured(console: Console, store: Optional[str], ports: Optional[list[int]],
         found.room, found.disk = disk.f_bavail * disk.f_frsize, disk.f_blocks * disk.f_frsize
         found.snapshot = last_snapshot(store)
         found.behind = None if found.snapshot is None else max(0, counts['items'] - found.snapshot)
+        first = items_of(console.get('/timeline/0')) if counts['items'] else []
+        found.oldest = first[0].at if first else None
     if ports:
         found.connections = connections(ports)
     return found
