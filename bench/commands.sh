@@ -1,5 +1,5 @@
 #!/bin/sh
-# Times `undomail play` over commands of mail readers that name many things: FETCH and UID FETCH by sets of 1,000 to
+# Times `undomail play` over commands of IMAP clients that name many things: FETCH and UID FETCH by sets of 1,000 to
 # 8,000 ranges over up to 20,000 messages, LIST over 1,000 mailboxes, COPY and UID FETCH of 20,000 messages.
 # Usage: bench/commands.sh PROGRAM (the built program, as `rt run` in crates/undomail leaves it under out/)
 set -e

@@ -1,7 +1,7 @@
 #!/usr/bin/env python3
 """Makes the groups of docs/MAP.md from crates.txt and the crates' heads: the drawing docs/map.svg, and the table between the page's two marks, which is
-the one table of the crates; and in docs/PROVED.md, which has the same groups and a heading for each crate in the same order, the line below each heading
-that says what carries the crate, by its head.
+the one table of the crates; and in docs/PROVED.md the groups, the order of the crates, and the line below
+each crate's heading that says what carries it, by its head.
 
 usage: bench/map.py            writes all three
        bench/map.py --check    says whether they are as crates.txt has it, and writes nothing
@@ -14,6 +14,7 @@ from xml.sax.saxutils import escape
 
 TOP = os.path.dirname(os.path.dirname(os.path.abspath(__file__)))
 PAGE, DRAWING, PROVED, CRATES = (os.path.join(TOP, *path) for path in (('docs', 'MAP.md'), ('docs', 'map.svg'), ('docs', 'PROVED.md'), ('crates.txt',)))
+BEGIN_CRATES, END_CRATES = '<!-- crates, by bench/map.py -->\n', '<!-- end of the crates -->'
 BEGINS, ENDS = '<!-- groups, by bench/map.py -->\n', '<!-- end of the groups -->'
 COLOURS = 'e6e9ee dceefb d9f2e3 fdeccb f6dcdc e9dff5 d3f0ef fbe3f1 eef0c8 dfe3fb f3f5f8'.split()   # a group's, in their order; the last is the tests'
 WIDE, HIGH, ACROSS, DOWN, LEFT = 118, 26, 128, 78, 40   # a box, and the distance from one to the next
@@ -77,11 +78,15 @@ def shortened(said):
     return said if len(said.split()) <= 40 else said.partition(':')[0] + '.'
 
 def proved():
-    """docs/PROVED.md with what carries each crate."""
-    text, wanted = open(PROVED).read(), [name for _, _, names in groups() for name in names]
-    got = re.findall(r'^### (\w+)$', text, re.M)
-    if got != wanted: sys.exit(f'docs/PROVED.md: its crates are not those of crates.txt, in order: {sorted(set(wanted) ^ set(got)) or "another order"}')
-    return re.sub(r'^### (\w+)\n\n(?:What carries it: .*\n\n)?', lambda at: f'### {at[1]}\n\n' + (f'{carried(at[1])}\n\n' if carried(at[1]) else ''), text, flags=re.M)
+    """docs/PROVED.md with the groups and the crates between its two marks in the order of crates.txt, each with what carries it; what else stands below a crate is kept."""
+    front, found, rest = open(PROVED).read().partition(BEGIN_CRATES)
+    inner, ends, back = rest.partition(END_CRATES)
+    if not (found and ends): sys.exit(f'{PROVED} lacks its two marks')
+    said = {name: re.sub(r'^What carries it: .*\n\n', '', body.strip('\n') + '\n') for name, body in re.findall(r'^### (\w+)\n\n(.*?)(?=^##|\Z)', inner, re.M | re.S)}
+    wanted = [name for _, _, names in groups() for name in names]
+    if set(said) != set(wanted): sys.exit(f'docs/PROVED.md: its crates are not those of crates.txt: {sorted(set(wanted) ^ set(said))}')
+    crate = lambda name: f'### {name}\n\n' + (f'{carried(name)}\n\n' if carried(name) else '') + said[name]
+    return front + BEGIN_CRATES + '\n'.join(f'## {group[0].upper() + group[1:]}: {what}\n\n' + '\n'.join(crate(name) for name in names) for group, what, names in groups()) + END_CRATES + back
 
 def places(uses, layer, lines):
     """Where each crate stands in its layer: near those that use it, and then near those that it uses."""

@@ -1,5 +1,5 @@
 #!/bin/sh
-# Times `undomail play` over a mailbox of 100,000 messages that a mail reader has selected, whose commands come in one
+# Times `undomail play` over a mailbox of 100,000 messages that an IMAP client has selected, whose commands come in one
 # piece: none, 6,000 NOOPs, 2,500 NOOPs and CAPABILITYs by turns, and 500 STATUSes that ask for no unseen messages.
 # Usage: bench/noops.sh PROGRAM (the built program, as `rt run` in crates/undomail leaves it under out/)
 set -e

@@ -1,5 +1,5 @@
 #!/bin/sh
-# Times GET /plan/0 over a day of so many deliveries to so many users, of which each user's mail reader fetches and flags up to
+# Times GET /plan/0 over a day of so many deliveries to so many users, of which each user's IMAP client fetches and flags up to
 # twenty; and over the same day with a RENAME, of one user after the other, behind each hundred items: processor seconds of a
 # run of `script` with that request, less one without it. Prints a table for docs/SPEED.md.
 # Usage: bench/plan.sh PROGRAM [DELIVERIES ..] (the built program, as `rt run` in crates/undomail leaves it under out/)

@@ -1,5 +1,5 @@
 #!/bin/sh
-# Times `undomail play` over a mailbox of 5,000 to 20,000 messages that mail readers use: FETCH of all flags, a NOOP
+# Times `undomail play` over a mailbox of 5,000 to 20,000 messages that IMAP clients use: FETCH of all flags, a NOOP
 # that tells of as many new messages, STORE and EXPUNGE of all, 1,000 commands that name one message, 1,000 renamings of
 # the mailbox, and 200 and 999 connections open at once.
 # Usage: bench/readers.sh PROGRAM (the built program, as `rt run` in crates/undomail leaves it under out/)

@@ -1,5 +1,5 @@
 #!/bin/sh
-# Times SEARCH over 10,000 messages of 10 kB in one mailbox, in one run: what a mail reader's session takes that selects it and
+# Times SEARCH over 10,000 messages of 10 kB in one mailbox, in one run: what an IMAP client's session takes that selects it and
 # asks that, less what it takes to select it alone; processor seconds, the least of three. Prints a table for docs/SPEED.md.
 # Usage: bench/search.sh PROGRAM (the built program, as `rt run` in crates/undomail leaves it under out/)
 set -e

@@ -1,10 +1,10 @@
 #!/usr/bin/env python3
-"""POST /upgrade beside 1,000 mail readers: with bodies that are none, on a disk without room, twice at once, once more, and on a disk that fails.
+"""POST /upgrade beside 1,000 IMAP clients: with bodies that are none, on a disk without room, twice at once, once more, and on a disk that fails.
 
 usage: bench/upgrades.py PROGRAM [PART ..]      PART: of beside_all, without_room (wants mount) and on_a_disk_that_fails (wants strace)
 
-Of the 1,000 connections that are served 984 are for mail: two mail clients within a transaction, two fetching clients who have marked a message, and 980 mail readers,
-who have not logged in, have logged in, have selected a mailbox, or stand within a command or a literal. Twenty more mail readers wait for a place. Looked at is what each
+Of the 1,000 connections that are served 984 are for mail: two SMTP clients within a transaction, two POP3 clients who have marked a message, and 980 IMAP clients,
+who have not logged in, have logged in, have selected a mailbox, or stand within a command or a literal. Twenty more IMAP clients wait for a place. Looked at is what each
 of them is told and what is left in the store; status 0 only where all was as docs/FORMATS.md says.
 """
 import contextlib, os, resource, select, shutil, signal, smtplib, socket, subprocess, sys, tempfile, time
@@ -80,21 +80,21 @@ class Crowd:
         time.sleep(.5)
         same(f'{what}: connections that were told something', [], told(self.all()))
     def goes_on(self, what):
-        """Each mail reader ends what it began, or asks something."""
+        """Each IMAP client ends what it began, or asks something."""
         for number, one in enumerate(self.readers): one.sendall(ASKS[number % 5])
         for number, one in enumerate(self.readers): until(one, SAYS[number % 5])
-        print(f'{what}: each of {len(self.readers)} mail readers goes on', flush=True)
+        print(f'{what}: each of {len(self.readers)} IMAP clients goes on', flush=True)
     def is_sent_away(self, begun):
-        """Each mail reader that had a place is told so and closed; those who waited are greeted, and nobody else hears of it."""
-        for one in self.readers: same('a mail reader', BYE, rest(one))
+        """Each IMAP client that had a place is told so and closed; those who waited are greeted, and nobody else hears of it."""
+        for one in self.readers: same('an IMAP client', BYE, rest(one))
         took = time.monotonic() - begun
         for one in self.waiting: same('one who waited', HELLO, until(one, HELLO))
         for one in self.waiting: one.sendall(b'a LOGIN ann a1\r\nb LIST "" ""\r\n')
         for one in self.waiting: same('of the delimiter', True, b'* LIST (\\Noselect) "/" ""\r\n' in until(one, b'LIST done.\r\n'))
-        same('mail clients and fetching clients that were told something', [], told([*self.clients, *self.fetchers]))
-        for one in self.clients: one.sendall(b'DATA\r\nSubject: late\r\n.\r\nQUIT\r\n'); true('a mail client ends its transaction', b'\r\n250 OK ' in rest(one))
-        for one in self.fetchers: one.sendall(b'QUIT\r\n'); same('a fetching client deletes', b'+OK Bye.\r\n', rest(one))
-        print(f'the first upgrade: {len(self.readers)} mail readers were told and closed, the last {took * 1000:.0f} ms after it was asked for; {WAIT} who waited were greeted, mail and fetching clients went on', flush=True)
+        same('SMTP clients and POP3 clients that were told something', [], told([*self.clients, *self.fetchers]))
+        for one in self.clients: one.sendall(b'DATA\r\nSubject: late\r\n.\r\nQUIT\r\n'); true('an SMTP client ends its transaction', b'\r\n250 OK ' in rest(one))
+        for one in self.fetchers: one.sendall(b'QUIT\r\n'); same('a POP3 client deletes', b'+OK Bye.\r\n', rest(one))
+        print(f'the first upgrade: {len(self.readers)} IMAP clients were told and closed, the last {took * 1000:.0f} ms after it was asked for; {WAIT} who waited were greeted, mail and POP3 clients went on', flush=True)
     def ends(self):
         for one in self.all(): one.close()
 
@@ -170,14 +170,14 @@ def without_room(folder):
             os.remove(os.path.join(disk, 'more'))
             begun = time.monotonic()
             same('an upgrade with room', (200, b'{"upgraded":true}'), asked(store))
-            for one in crowd.readers: same('a mail reader', BYE, rest(one))
+            for one in crowd.readers: same('an IMAP client', BYE, rest(one))
             print('a disk without room: refused three times with 503, nobody was told, and done once there was room', flush=True)
             crowd.ends()
         finally: store.kill()
     finally: subprocess.run(['umount', '-l', disk])
 
 def on_a_disk_that_fails(folder):
-    """Its record is not synced: the operator is told of the disk, mail readers nothing, and serving ends; a next run has it or has it not."""
+    """Its record is not synced: the operator is told of the disk, IMAP clients nothing, and serving ends; a next run has it or has it not."""
     if not shutil.which('strace'): return print('a disk that fails: not tried, no strace')
     for call, place in (('fsync', 1), ('fdatasync', 1)):
         store = filled(folder, call)
@@ -192,7 +192,7 @@ def on_a_disk_that_fails(folder):
         same('its end', 5, store.process.wait(60))
         trace.wait(20)
         ends = {rest(one) for one in crowd.readers}
-        same('mail readers are told', {b''}, ends)
+        same('IMAP clients are told', {b''}, ends)
         same('one of the two is told of the disk, the other nothing', [b'', b'{"error":"disk"}'], sorted(said))
         count = upgrades(store)[0]
         store.start()
@@ -201,7 +201,7 @@ def on_a_disk_that_fails(folder):
         same('the next run agrees with its journal', b'(\\Noselect) %s ""' % (b'"/"' if count else b'NIL'), deep)
         same('asked again', (200, b'{"upgraded":true}'), asked(store))
         store.kill(); crowd.ends()
-        print(f'a disk whose {call} fails: one of two is told so, the other and {len(crowd.readers)} mail readers are closed without a word, the program ends with 5; the next run has {"it" if count else "it not"}, and does it when asked again', flush=True)
+        print(f'a disk whose {call} fails: one of two is told so, the other and {len(crowd.readers)} IMAP clients are closed without a word, the program ends with 5; the next run has {"it" if count else "it not"}, and does it when asked again', flush=True)
 
 def main():
     if len(sys.argv) < 2: sys.exit(__doc__)

@@ -1,15 +1,15 @@
 #!/usr/bin/env python3
 """Refuses one allocation of a cycle after the other, and looks at what is left.
 
-usage: bench/starve.py PROGRAM      (the built program; needs cc, to make a malloc that refuses its Nth call)
+usage: bench/no_memory.py PROGRAM      (the built program; needs cc, to make a malloc that refuses its Nth call)
 
 For each of three stories of tests/cases/cycles (a filter by mistake, an infected delivery, a wrong alias): what comes before
 the cycle is done over a store; then, for each N until none is refused, a copy of that store gets the cycle while the Nth
 allocation of the run is refused, and is looked at in the same run and in the next, where none is. What is seen must be the
 store without the cycle or with all of it: with it where the operator was told the report, without it where want of memory
 was told, and either where the connection closed without a word or the run ended for want of memory. At least one of them must be
-told of want of memory, in each story, and in a fourth: a mail client's greeting and envelope, a mail reader's login and look at a mailbox, and a
-fetching client's session. Of that one's QUIT what is left is looked at too: the store before it, with its STORE alone, or with its EXPUNGE too, this only where it
+told of want of memory, in each story, and in a fourth: an SMTP client's greeting and envelope, an IMAP client's login and look at a mailbox, and a
+POP3 client's session. Of that one's QUIT what is left is looked at too: the store before it, with its STORE alone, or with its EXPUNGE too, this only where it
 was answered `+OK Bye.` or its connection closed, and the first not where it was answered so. STORE alone must come about, as must want of memory that is told.
 """
 import collections, os, re, shutil, subprocess, sys, tempfile
@@ -102,7 +102,7 @@ def main():
         print(f'{name}: {at - 1} allocations; ' + ', '.join(f'{kind} and {left}: {n}' for (kind, left), n in sorted(count.items())))
     client = 'open 1 smtp\nline 1 HELO c\nline 1 MAIL FROM:<joe@far.test>\nline 1 RCPT TO:<ann@mail.test>\nline 1 NOOP\n'
     reader = 'open 2 imap\nline 2 a LOGIN ann a1\nline 2 b SELECT INBOX\nline 2 c NOOP\n'
-    for name, text, memory in (('a mail client', client, '452 No memory'), ('a mail reader', reader, 'NO No memory')):
+    for name, text, memory in (('an SMTP client', client, '452 No memory'), ('an IMAP client', reader, 'NO No memory')):
         count, at = collections.Counter(), 0
         while True:
             at += 1
@@ -114,7 +114,7 @@ def main():
             bad += 1
             print(f'{name}: want of memory is never told')
         print(f'{name}: {at - 1} allocations; ' + ', '.join(f'{what}: {n}' for what, n in sorted(count.items())))
-    # A fetching client's QUIT of one of two messages: what lies in INBOX then, and which flags it has.
+    # A POP3 client's QUIT of one of two messages: what lies in INBOX then, and which flags it has.
     mail = 'at 1105092000\nopen 2 smtp\nline 2 HELO c\n' + 'line 2 MAIL FROM:<joe@far.test>\nline 2 RCPT TO:<ann@mail.test>\nline 2 DATA\nline 2 Subject: hi\nline 2\nline 2 .\n' * 2
     session = 'at 1105092000\nopen 1 pop\nline 1 USER ann\nline 1 PASS a1\nline 1 RETR 1\nline 1 DELE 2\nline 1 QUIT\n'
     look = 'open 3 http\nline 3 GET /box/ann/INBOX HTTP/1.1\nline 3\n'
@@ -135,11 +135,11 @@ def main():
         count[(kind, left)] += 1
         if left == 'NEITHER' or (kind == 'done') != (left == 'after') and kind not in ('closed', 'status 8'):
             bad += 1
-            print(f'a fetching client: allocation {at}: {kind}, {left}, status {status}')
+            print(f'a POP3 client: allocation {at}: {kind}, {left}, status {status}')
     if not any(kind == 'told' for kind, _ in count) or not any(left == 'marked' for _, left in count):
         bad += 1
-        print('a fetching client: want of memory is never told, or never comes between the STORE and the EXPUNGE')
-    print(f'a fetching client: {at - 1} allocations; ' + ', '.join(f'{kind} and {left}: {n}' for (kind, left), n in sorted(count.items())))
+        print('a POP3 client: want of memory is never told, or never comes between the STORE and the EXPUNGE')
+    print(f'a POP3 client: {at - 1} allocations; ' + ', '.join(f'{kind} and {left}: {n}' for (kind, left), n in sorted(count.items())))
     shutil.rmtree(work)
     print('each left the store as it was, or with the whole cycle' if not bad else f'{bad} did not')
     sys.exit(1 if bad else 0)
