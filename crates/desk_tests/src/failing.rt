@@ -93,11 +93,11 @@ fn closes_at<R: Threads + Sync>(
     Ok(closes? && tried == writes)
 }
 
-// Nine calls start the desk, and four seal the first cycle. A cycle is one record, and so is a withdrawal: a write, a sync, a write
+// Ten calls start the desk, and four seal the first cycle. A cycle is one record, and so is a withdrawal: a write, a sync, a write
 // and a sync.
 #[test]
 fn a_failed_cycle_or_withdrawal_closes_the_desk(rt: HostRuntime) -> Result<(), Fail> {
-    for (ordinal, writes) in [(14, 3), (15, 3), (16, 4), (17, 4)] {
+    for (ordinal, writes) in [(15, 3), (16, 3), (17, 4), (18, 4)] {
         assert!(rt; closes_at(&rt, rt.alloc(), ordinal, true, writes)?);
         assert!(rt; closes_at(&rt, rt.alloc(), ordinal, false, writes)?);
     }
@@ -133,10 +133,10 @@ fn stays_at(alloc: Global, ordinal: u32, by_mail: bool, writes: usize) -> Result
     Ok(stays? && tried == writes)
 }
 
-// Nine calls start the desk, and a seal is a write, a sync, a write and a sync. A closed desk writes nothing.
+// Ten calls start the desk, and a seal is a write, a sync, a write and a sync. A closed desk writes nothing.
 #[test]
 fn a_failed_seal_closes_the_desk(rt: HostRuntime) -> Result<(), Fail> {
-    for (ordinal, writes) in [(10, 1), (11, 1), (12, 2), (13, 2)] {
+    for (ordinal, writes) in [(11, 1), (12, 1), (13, 2), (14, 2)] {
         assert!(rt; stays_at(rt.alloc(), ordinal, true, writes)?);
         assert!(rt; stays_at(rt.alloc(), ordinal, false, writes)?);
     }

@@ -41,10 +41,10 @@ fn closes(alloc: Global, desk: &mut Desk<MemDisk>) -> bool {
     failed == Err(SealFault::Disk) && closed == Err(SealFault::Closed) && !desk.upgraded()
 }
 
-// Nine calls start the desk, and a seal is a write, a sync, a write and a sync.
+// Ten calls start the desk, and a seal is a write, a sync, a write and a sync.
 #[test]
 fn a_failed_upgrade_closes_the_desk(rt: HostRuntime) -> Result<(), Fail> {
-    for ordinal in [10, 11, 12, 13] {
+    for ordinal in [11, 12, 13, 14] {
         let mut desk = started(rt.alloc(), JOURNAL, &[ordinal])?;
         let closes = closes(rt.alloc(), &mut desk);
         drop(desk);
@@ -63,7 +63,7 @@ fn answers_again(alloc: Global, desk: &mut Desk<MemDisk>) -> Result<bool, Fail> 
 
 #[test]
 fn a_closed_desk_was_upgraded(rt: HostRuntime) -> Result<(), Fail> {
-    let mut desk = started(rt.alloc(), JOURNAL, &[14])?;
+    let mut desk = started(rt.alloc(), JOURNAL, &[15])?;
     let answers = answers_again(rt.alloc(), &mut desk);
     drop(desk);
     assert!(rt; answers?);
