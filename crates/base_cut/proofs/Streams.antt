@@ -17,13 +17,13 @@ then_told-append None xs ys = refl
 then_told-append (Some zs) xs ys = ap Some (append_assoc zs xs ys)
 
 pub took_none : (told : SinkTold) → Took told told []
-took_none told = record { written = sym (then_told-nil told.written); faults = refl; starved = refl; reliable = refl }
+took_none told = record { written = sym (then_told-nil told.written); faults = refl; out_of_memory = refl; reliable = refl }
 
 pub took_more : (a b c : SinkTold) (xs ys : List ℕ) → Took a b xs → Took b c ys → Took a c (xs ++ ys)
 took_more a b c xs ys t u = record {
   written = u.written ∙ ap (λ o. then_told o ys) t.written ∙ then_told-append a.written xs ys;
   faults = u.faults ∙ t.faults;
-  starved = u.starved ∙ t.starved;
+  out_of_memory = u.out_of_memory ∙ t.out_of_memory;
   reliable = u.reliable ∙ t.reliable;
 }
 
@@ -32,12 +32,12 @@ took_some : (old new : SinkTold) (piece : List ℕ) (n : ℕ) → 0 < n → Writ
 took_some old new [] n some wrote = absurd (omega (arith, wrote.0))
 took_some old new (b ∷ piece) n some wrote =
     let test : (n == 0) ≡ false = grind (arith, nat_tests) in
-    let is : new ≡ record old { written = then_told old.written (take n (b ∷ piece)); failed_last = false; starved_last = false } =
-    subst (λ t. MatchBool t (FailsToWrite old new) (new ≡ record old { written = then_told old.written (take n (b ∷ piece)); failed_last = false; starved_last = false })) test wrote.1 in
+    let is : new ≡ record old { written = then_told old.written (take n (b ∷ piece)); failed_last = false; out_of_memory_last = false } =
+    subst (λ t. MatchBool t (FailsToWrite old new) (new ≡ record old { written = then_told old.written (take n (b ∷ piece)); failed_last = false; out_of_memory_last = false })) test wrote.1 in
     record {
       written = ap (λ (t : SinkTold). t.written) is;
       faults = ap (λ (t : SinkTold). t.faults) is;
-      starved = ap (λ (t : SinkTold). t.starved) is;
+      out_of_memory = ap (λ (t : SinkTold). t.out_of_memory) is;
       reliable = ap (λ (t : SinkTold). t.is_reliable) is;
     }
 

@@ -45,7 +45,6 @@ cut_payloads parts texts = parts.head ∷ parts.base ∷ map record_bytes (recor
 abbrev pub closed_journal : List (List ℕ) → List ℕ
 closed_journal payloads = sealed payloads ++ 0 ∷ []
 
--- the bytes of a cut
 abbrev pub cut_bytes : CutParts → (Body → List ℕ) → List ℕ
 cut_bytes parts texts = closed_journal (cut_payloads parts texts)
 

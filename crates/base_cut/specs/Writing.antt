@@ -8,7 +8,7 @@ use Rattle.undo_outside.specs.Calls.{SinkTold, FailsToWrite, WantsToWrite, then_
 pub record Took (old new : SinkTold) (bytes : List ℕ) : Type 0 where
   pub written : new.written ≡ then_told old.written bytes
   pub faults : new.faults ≡ old.faults
-  pub starved : new.starved ≡ old.starved
+  pub out_of_memory : new.out_of_memory ≡ old.out_of_memory
   pub reliable : new.is_reliable ≡ old.is_reliable
 
 -- a write was refused: it failed, or it found no memory
@@ -36,10 +36,10 @@ abbrev pub WriteFails : SinkTold → SinkTold → List ℕ → Type 0
 WriteFails old new bytes =
     (front : List ℕ) × (back : List ℕ) × (bytes ≡ front ++ back) × (0 < length back) × (before : SinkTold) × Took old before front × FailsToWrite before new
 
--- The sink took a first part of this, and not all, and then a write found no memory, and the sink is as that write left it, so that there was no write after it;
--- or no memory was found for what was to be written next, and there was none.
-abbrev pub WriteStarves : SinkTold → SinkTold → List ℕ → Type 0
-WriteStarves old new bytes =
+-- The sink took a first part of this, and not all, and then a write found no memory. The sink is as that write left it, so there was no write after
+-- it. Or no memory was found for what was to be written next, and there was none.
+abbrev pub WriteRunsOutOfMemory : SinkTold → SinkTold → List ℕ → Type 0
+WriteRunsOutOfMemory old new bytes =
     (front : List ℕ) × (back : List ℕ) × (bytes ≡ front ++ back) × (0 < length back) × (before : SinkTold) × Took old before front
     × (WantsToWrite before new ⊎ (new ≡ before))
 
@@ -47,7 +47,7 @@ WriteStarves old new bytes =
 abbrev pub WritesAll : SinkTold → SinkTold → List ℕ → Result (Unit {0}) Fault → Type 0
 WritesAll old new bytes (Ok x) = Took old new bytes
 WritesAll old new bytes (Err Failed) = WriteFails old new bytes
-WritesAll old new bytes (Err NoMemory) = WriteStarves old new bytes
+WritesAll old new bytes (Err NoMemory) = WriteRunsOutOfMemory old new bytes
 
 -- this was written, or a first part of it up to a write that failed or found no memory, and nothing else
 abbrev pub Wrote : SinkTold → SinkTold → List ℕ → Type 0

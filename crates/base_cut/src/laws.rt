@@ -18,8 +18,8 @@ pub fn cuts_are_journals()
         → cut_payloads parts texts ≡ map record_bytes (format ∷ base ∷ records_behind parts texts) }
 {}
 
-/// What is left of the bytes of a cut where its end is missing is nothing, or it ends behind some of its payloads within the frame or
-/// before the gate of the next; it stands for no payloads.
+/// What is left of the bytes of a cut where its end is missing is nothing, or it ends behind some of its payloads. There it ends
+/// within the frame or before the gate of the next, and stands for no payloads.
 pub fn cuts_stand_whole()
     ensures ends { (payloads : List (List ℕ)) (front back : List ℕ) → AllByRecursion IsPayload payloads → closed_journal payloads ≡ front ++ back → 0 < length back
         → (front ≡ []) ⊎ ((count : ℕ) × (part : List ℕ) × (count ≤ length payloads) × (front ≡ sealed (take count payloads) ++ part) × BeginsCut part) }

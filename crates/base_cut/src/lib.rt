@@ -1,9 +1,9 @@
 //! Cutting the past off: a store whose past went into a base is written as a new journal.
 //!
-//! `parts` is what a cut is made of, `fault` why it was not written, `writing` writes bytes whole, `framing` a payload behind an
-//! open gate, `cutting` the payloads of a cut, and `laws` says what the definitions imply. In specs/, Writing is what a sink took,
+//! `parts` is what a cut is made of, `fault` why it was not written. `writing` writes bytes whole, `framing` a payload behind an
+//! open gate, `cutting` the payloads of a cut. `laws` says what the definitions imply. In specs/, Writing is what a sink took,
 //! Cutting what a cut is. What carries the crate: `write_cut`, by `exact` (what is written is the cut, byte for byte, or a first
-//! part of it that is no journal) and `reads` (the texts that it lists were read, up to one whose read failed).
+//! part of it that is no journal) and `reads`. That says that the texts that it lists were read, up to one whose read failed.
 #![tactic(auto)]
 
 mod cutting;

@@ -23,11 +23,9 @@ aimed s i text what valid formed is to = record {
   missing = ap (λ (t : Sought). list_all (λ (a : Aim). not (has_row (box_aimed a) s.boxes)) t.missed) to ∙ missed_gone s valid text i.by i.deed;
 }
 
--- the same answer
 pub same_answer : (s : MailStore) (i : Item) (text : List ℕ) (what : Resolved) (shown : Shown) → what.item ≡ i → sought_in what ≡ sought s text i.by i.deed → shown ≡ (step_with (sought_in what) s what.item).1 → shown ≡ (step_text s i text).1
 same_answer s i text what shown is to h = h ∙ (λ j. (step_with (to j) s (is j)).1)
 
--- the same store
 pub same_store : (s : MailStore) (i : Item) (text : List ℕ) (what : Resolved) (e : Effect) → IsValid s → what.item ≡ i → sought_in what ≡ sought s text i.by i.deed → IsEffect e what s → applied e s ≡ (step_text s i text).0
 same_store s i text what e valid is to does = does.elsewhere s refl valid (λ q _. refl) (λ _. refl) ∙ (λ j. (step_with (to j) s (is j)).0)
 

@@ -230,7 +230,6 @@ users_more p house i lt =
     get_or-map user all i nobody (record { 0 = 0 }) within ∙ ap user (get_or-enumerate_from 0 house.accounts i nobody lt) ∙ ap number plain in
     list_all_more p (users_of house) i (record { 0 = 0 }) (omega (arith, length-map all user)) ∙ ap (λ u. list_all p (take i (users_of house)) && p u) here
 
--- all users
 pub users_all : (p : User → Bool) (house : House) (place : ℕ) → length house.accounts ≤ place → list_all p (take place (users_of house)) ≡ list_all p (users_of house)
 users_all p house place le =
     let user : ℕ × Account → User = λ a. record { 0 = a.0 } in
@@ -270,7 +269,6 @@ not_before house rs one other here there lt =
     let no : true ≡ false = sym front ∙ ap (are_rows house) same ∙ here.here (omega arith) in
     cc
 
--- the place is one
 pub one_place : (house : House) (rs : Boxes) (one other : ℕ) → IsRefusedAt house rs one → IsRefusedAt house rs other → one ≡ other
 one_place house rs one other here there =
     elim (cases_order one other) [

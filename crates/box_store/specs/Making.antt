@@ -12,8 +12,8 @@ use Rattle.verb_core.specs.Store.{MailStore, is_house, is_known, is_row, has_fix
 abbrev pub store_of_rows : House → Conf → List (BoxId × Mailbox) → MailStore
 store_of_rows house conf rows = record { house = house; conf = conf; boxes = rows }
 
--- whether the users and names rise, each user is known, in each row the UIDs rise from at least 1 and stay below the next, and
--- each superior of a row's name has a row, which then stands before it
+-- Whether the users and names rise and each user is known; in each row the UIDs rise from at least 1 and stay below the next.
+-- Each superior of a row's name has a row, which then stands before it.
 abbrev pub are_rows : House → List (BoxId × Mailbox) → Bool
 are_rows house rows = is_rising rows && list_all (is_row house) rows && list_all (has_superiors rows) rows
 

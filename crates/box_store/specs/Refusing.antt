@@ -58,8 +58,8 @@ by_keys s by ask = first_of (
 abbrev pub is_free : MailStore → Option User → List ℕ → Bool
 is_free s by name = not (has_row (box_of (asker by) name) s.boxes)
 
--- how many mailboxes more: those of the name and its superiors that are missing; of a RENAME, which is to a name, the missing
--- superiors of its target, and of INBOX, which stays, the target
+-- How many mailboxes more: those of the name and its superiors that are missing. Of a RENAME, which is to a name, these are the
+-- missing superiors of its target, and of INBOX, which stays, the target.
 abbrev pub adds_names : MailStore → Option User → Ask → ℕ
 adds_names s by (Create mailbox) = length (filter (is_free s by) (with_superiors mailbox))
 adds_names s by (Rename mailbox target) = if is_empty target then 0 else length (filter (is_free s by) (superiors target)) + (if bytes_eq mailbox inbox then 1 else 0)

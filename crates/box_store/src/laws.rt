@@ -48,8 +48,8 @@ impl Store {
         let _item = item;
     }
 
-    /// Of the entries of a user's mailboxes, by whatever test of their keys, flags, moments and bodies: those that lay
-    /// there and those that the item gives are those that lie there afterwards and those that it took out.
+    /// Of the entries of a user's mailboxes, by whatever test of their keys, flags, moments and bodies. Those that lay there and
+    /// those that the item gives are those that lie there afterwards and those that it took out.
     pub fn keeps_mail(&self, item: &Item)
         requires valid { IsValid self.now.store }
         requires formed { IsWellFormed self.now.store.house item.now }
@@ -60,8 +60,8 @@ impl Store {
         let _item = item;
     }
 
-    /// No message comes twice to a user, and each that lay with a user, or that the item gives, lies afterwards in one
-    /// mailbox of that user under one UID, or the item took it out.
+    /// No message comes twice to a user. Each that lay with a user, or that the item gives, lies afterwards in one mailbox of
+    /// that user under one UID, or the item took it out.
     pub fn gives_one_fate(&self, item: &Item)
         requires valid { IsValid self.now.store }
         requires formed { IsWellFormed self.now.store.house item.now }

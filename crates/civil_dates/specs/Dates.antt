@@ -5,7 +5,6 @@ use Rattle.civil_dates.specs.declared.days.Day.{Day}
 use Rattle.civil_dates.specs.Days.{civil_day}
 use Rattle.civil_dates.specs.Months.{month_name}
 
--- two digits
 abbrev pub two_digits : ℕ → List ℕ
 two_digits n = (48 + n / 10) ∷ (48 + n % 10) ∷ []
 

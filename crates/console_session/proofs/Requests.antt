@@ -29,28 +29,28 @@ use Rattle.console_session.specs.declared.reply.After.TheVariants.{Closes}
 use Rattle.console_session.specs.declared.reply.Reply.{Reply}
 use Rattle.console_session.specs.Answers.{Answer, answer, body_found, is_text_recorded, pointless, uncycled}
 use Rattle.console_session.specs.ConsoleTurn.{ConsoleTurn, chosen, done, failed, numberless, tells, upgrade_done}
-use Rattle.console_session.specs.Hindrance.{Hindrance, Clear, Refused, Unheard, Unanswered, Unsealed, Untold, Unwritten, UnwrittenUnheard, Unread, UnreadRefused, UnreadUnheard, Misread, acted_under, found_under, gone_back_under, hindered, lost, read_under, rewound_under, routed_under, sealed_under, starved, told_under, tried_under, upgraded_under, where_read}
+use Rattle.console_session.specs.Hindrance.{Hindrance, Clear, Refused, Unheard, Unanswered, Unsealed, Untold, Unwritten, UnwrittenUnheard, Unread, UnreadRefused, UnreadUnheard, Misread, acted_under, found_under, gone_back_under, hindered, lost, read_under, rewound_under, routed_under, sealed_under, out_of_memory, told_under, tried_under, upgraded_under, where_read}
 use Rattle.console_session.specs.Hearing.{Hears, AreServed, IsTurn, AnswersRequest, is_failure}
 use Rattle.console_session.proofs.Turns.{turn_at}
 
 -- ---- want of memory before anything is sealed, whatever is chosen
 
-starved_back : (kept : Kept) (missing : Answer) (what : JournalRecord) (left : Cycled → Kept) (due : Due) → gone_back_under Refused kept missing what left due ≡ starved kept
-starved_back kept missing what left (Repeats report) = refl
-starved_back kept missing what left NoPoint = refl
-starved_back kept missing what left NoNumbers = refl
-starved_back kept missing what left (IsDue due) = refl
+out_of_memory_back : (kept : Kept) (missing : Answer) (what : JournalRecord) (left : Cycled → Kept) (due : Due) → gone_back_under Refused kept missing what left due ≡ out_of_memory kept
+out_of_memory_back kept missing what left (Repeats report) = refl
+out_of_memory_back kept missing what left NoPoint = refl
+out_of_memory_back kept missing what left NoNumbers = refl
+out_of_memory_back kept missing what left (IsDue due) = refl
 
-starved_try : (kept : Kept) (ask : CycleAsk) (due : Due) → tried_under Refused kept ask due ≡ starved kept
-starved_try kept ask (Repeats report) = refl
-starved_try kept ask NoPoint = refl
-starved_try kept ask NoNumbers = refl
-starved_try kept ask (IsDue due) = refl
+out_of_memory_try : (kept : Kept) (ask : CycleAsk) (due : Due) → tried_under Refused kept ask due ≡ out_of_memory kept
+out_of_memory_try kept ask (Repeats report) = refl
+out_of_memory_try kept ask NoPoint = refl
+out_of_memory_try kept ask NoNumbers = refl
+out_of_memory_try kept ask (IsDue due) = refl
 
-starved_found : {A : Type 0} → (some : Bool) (kept : Kept) (o : Option A) (t : ConsoleTurn) → found_under some Refused kept o t ≡ starved kept
-starved_found some kept None t = refl
-starved_found true kept (Some x) t = refl
-starved_found false kept (Some x) t = refl
+out_of_memory_found : {A : Type 0} → (some : Bool) (kept : Kept) (o : Option A) (t : ConsoleTurn) → found_under some Refused kept o t ≡ out_of_memory kept
+out_of_memory_found some kept None t = refl
+out_of_memory_found true kept (Some x) t = refl
+out_of_memory_found false kept (Some x) t = refl
 
 lost_back : (kept : Kept) (missing : Answer) (what : JournalRecord) (left : Cycled → Kept) (due : Due) → gone_back_under Unheard kept missing what left due ≡ lost kept
 lost_back kept missing what left (Repeats report) = refl
@@ -69,20 +69,20 @@ lost_found some kept None t = refl
 lost_found true kept (Some x) t = refl
 lost_found false kept (Some x) t = refl
 
-starved_route : (at : ℕ) (kept : Kept) (t : Taken) → routed_under Refused at kept t ≡ starved kept
-starved_route at kept route.Status = refl
-starved_route at kept (route.Timeline start) = refl
-starved_route at kept (route.Box user name) = refl
-starved_route at kept (route.Body number) = starved_found (is_text_recorded kept number) kept (body_found kept.timeline number) _
-starved_route at kept route.Conf = refl
-starved_route at kept (route.Plan point) = starved_found (plan_reads kept point) kept (position kept.timeline point) _
-starved_route at kept (route.Act act) = elim (nat_lt kept.next 4194304) as (λ b. (if b then starved kept else starved kept) ≡ starved kept) [ true ↦ refl | false ↦ refl ]
-starved_route at kept (route.Cycle ask) = starved_back kept (pointless ask.point) (Cycle kept.next at ask) (after_cycle kept ask) (cycle_due kept at ask)
-starved_route at kept (route.Try ask) = starved_try kept ask (due_anew kept at ask)
-starved_route at kept route.Snapshot = refl
-starved_route at kept route.Stop = refl
-starved_route at kept route.Upgrade = elim kept.deep as (λ b. (if b then starved kept else starved kept) ≡ starved kept) [ true ↦ refl | false ↦ refl ]
-starved_route at kept (route.Withdraw key of) = starved_back kept (uncycled of) (Withdraw kept.next at key of) (after_withdrawal kept key) (withdraw_due kept at key of)
+out_of_memory_route : (at : ℕ) (kept : Kept) (t : Taken) → routed_under Refused at kept t ≡ out_of_memory kept
+out_of_memory_route at kept route.Status = refl
+out_of_memory_route at kept (route.Timeline start) = refl
+out_of_memory_route at kept (route.Box user name) = refl
+out_of_memory_route at kept (route.Body number) = out_of_memory_found (is_text_recorded kept number) kept (body_found kept.timeline number) _
+out_of_memory_route at kept route.Conf = refl
+out_of_memory_route at kept (route.Plan point) = out_of_memory_found (plan_reads kept point) kept (position kept.timeline point) _
+out_of_memory_route at kept (route.Act act) = elim (nat_lt kept.next 4194304) as (λ b. (if b then out_of_memory kept else out_of_memory kept) ≡ out_of_memory kept) [ true ↦ refl | false ↦ refl ]
+out_of_memory_route at kept (route.Cycle ask) = out_of_memory_back kept (pointless ask.point) (Cycle kept.next at ask) (after_cycle kept ask) (cycle_due kept at ask)
+out_of_memory_route at kept (route.Try ask) = out_of_memory_try kept ask (due_anew kept at ask)
+out_of_memory_route at kept route.Snapshot = refl
+out_of_memory_route at kept route.Stop = refl
+out_of_memory_route at kept route.Upgrade = elim kept.deep as (λ b. (if b then out_of_memory kept else out_of_memory kept) ≡ out_of_memory kept) [ true ↦ refl | false ↦ refl ]
+out_of_memory_route at kept (route.Withdraw key of) = out_of_memory_back kept (uncycled of) (Withdraw kept.next at key of) (after_withdrawal kept key) (withdraw_due kept at key of)
 
 lost_route : (at : ℕ) (kept : Kept) (t : Taken) → routed_under Unheard at kept t ≡ lost kept
 lost_route at kept route.Status = refl
@@ -99,9 +99,9 @@ lost_route at kept route.Stop = refl
 lost_route at kept route.Upgrade = elim kept.deep as (λ b. (if b then lost kept else lost kept) ≡ lost kept) [ true ↦ refl | false ↦ refl ]
 lost_route at kept (route.Withdraw key of) = lost_back kept (uncycled of) (Withdraw kept.next at key of) (after_withdrawal kept key) (withdraw_due kept at key of)
 
-starved_choice : (at : ℕ) (kept : Kept) (c : Choice) → hindered Refused at kept (chosen c) ≡ starved kept
-starved_choice at kept (Ok t) = starved_route at kept t
-starved_choice at kept (Err e) = refl
+out_of_memory_choice : (at : ℕ) (kept : Kept) (c : Choice) → hindered Refused at kept (chosen c) ≡ out_of_memory kept
+out_of_memory_choice at kept (Ok t) = out_of_memory_route at kept t
+out_of_memory_choice at kept (Err e) = refl
 
 lost_choice : (at : ℕ) (kept : Kept) (c : Choice) → hindered Unheard at kept (chosen c) ≡ lost kept
 lost_choice at kept (Ok t) = lost_route at kept t
@@ -224,25 +224,25 @@ module _ {D : Type 0} (told : D → DiskTold) where
   abbrev serves_as : (at : ℕ) (old new : Lasting D) (r : Reply) (a b : Result Asked HttpRefused) → a ≡ b → AnswersRequest told at b old new r → AnswersRequest told at a old new r
   serves_as at old new r a b e s = subst (λ (v : Result Asked HttpRefused). AnswersRequest told at v old new r) (sym e) s
 
-  as_starved : (at : ℕ) (old new : Lasting D) (r : Reply) (c : Choice) → IsTurn told (starved old.kept) old new r → IsStill told old new → AnswersRequest told at (chosen c) old new r
-  as_starved at old new r c turn same = record { hindrance = Refused; turn_is = turn_at told _ _ old new r (starved_choice at old.kept c) turn; still = λ e. same }
+  as_out_of_memory : (at : ℕ) (old new : Lasting D) (r : Reply) (c : Choice) → IsTurn told (out_of_memory old.kept) old new r → IsStill told old new → AnswersRequest told at (chosen c) old new r
+  as_out_of_memory at old new r c turn same = record { hindrance = Refused; turn_is = turn_at told _ _ old new r (out_of_memory_choice at old.kept c) turn; still = λ e. same }
 
   as_lost : (at : ℕ) (old new : Lasting D) (r : Reply) (c : Choice) → IsTurn told (lost old.kept) old new r → IsStill told old new → AnswersRequest told at (chosen c) old new r
   as_lost at old new r c turn same = record { hindrance = Unheard; turn_is = turn_at told _ _ old new r (lost_choice at old.kept c) turn; still = λ e. same }
 
-  wanting : (at : ℕ) (old new : Lasting D) (r : Reply) (c : Choice) (h : Hindrance) → IsTurn told (told_under h old.kept (starved old.kept)) old new r → IsStill told old new → AnswersRequest told at (chosen c) old new r
-  wanting at old new r c Clear turn same = as_starved at old new r c turn same
-  wanting at old new r c Refused turn same = as_starved at old new r c turn same
+  wanting : (at : ℕ) (old new : Lasting D) (r : Reply) (c : Choice) (h : Hindrance) → IsTurn told (told_under h old.kept (out_of_memory old.kept)) old new r → IsStill told old new → AnswersRequest told at (chosen c) old new r
+  wanting at old new r c Clear turn same = as_out_of_memory at old new r c turn same
+  wanting at old new r c Refused turn same = as_out_of_memory at old new r c turn same
   wanting at old new r c Unheard turn same = as_lost at old new r c turn same
-  wanting at old new r c Unanswered turn same = as_starved at old new r c turn same
-  wanting at old new r c Unsealed turn same = as_starved at old new r c turn same
-  wanting at old new r c Untold turn same = as_starved at old new r c turn same
-  wanting at old new r c Unwritten turn same = as_starved at old new r c turn same
-  wanting at old new r c UnwrittenUnheard turn same = as_starved at old new r c turn same
-  wanting at old new r c Unread turn same = as_starved at old new r c turn same
-  wanting at old new r c UnreadRefused turn same = as_starved at old new r c turn same
-  wanting at old new r c UnreadUnheard turn same = as_starved at old new r c turn same
-  wanting at old new r c (Misread said left) turn same = as_starved at old new r c turn same
+  wanting at old new r c Unanswered turn same = as_out_of_memory at old new r c turn same
+  wanting at old new r c Unsealed turn same = as_out_of_memory at old new r c turn same
+  wanting at old new r c Untold turn same = as_out_of_memory at old new r c turn same
+  wanting at old new r c Unwritten turn same = as_out_of_memory at old new r c turn same
+  wanting at old new r c UnwrittenUnheard turn same = as_out_of_memory at old new r c turn same
+  wanting at old new r c Unread turn same = as_out_of_memory at old new r c turn same
+  wanting at old new r c UnreadRefused turn same = as_out_of_memory at old new r c turn same
+  wanting at old new r c UnreadUnheard turn same = as_out_of_memory at old new r c turn same
+  wanting at old new r c (Misread said left) turn same = as_out_of_memory at old new r c turn same
 
   -- what was asked is served, and so are the bytes that ask it
   pub heard : (at : ℕ) (unserved bytes : List ℕ) (old new : Lasting D) (r : Reply) (asked : Result Asked HttpRefused)

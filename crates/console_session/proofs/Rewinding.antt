@@ -1,8 +1,8 @@
 -- Requests that go back in the past as turns: a cycle, a withdrawal, and a cycle that is only tried.
 use Rattle.std.proofs.Common.{◌≡◌, ◌||◌, ℕ, Bool, true, false, List, [], ◌∷◌, Option, Some, None, refl, sym, ap, ◌∙◌, subst, inl, inr}
 use Rattle.std.specs.Prelude.{◌⊎◌, Ok}
-use Rattle.undo_outside.specs.Disk.{DiskTold, ReadFailed, WriteStarved}
-use Rattle.seal_log.specs.Causes.{Fed}
+use Rattle.undo_outside.specs.Disk.{DiskTold, ReadFailed, WriteOutOfMemory}
+use Rattle.seal_log.specs.Causes.{FindsMemory}
 use Rattle.seal_log.specs.Settled.{ReadsAlone}
 use Rattle.verb_core.specs.declared.conf.House.{House}
 use Rattle.verb_bytes.specs.declared.journal.CycleAsk.{CycleAsk}
@@ -17,7 +17,7 @@ use Rattle.time_desk.specs.declared.fault.CycleFault.{CycleFault}
 use Rattle.time_desk.specs.declared.fault.CycleFault.TheVariants as cycle_fault
 use Rattle.time_desk.specs.declared.fault.WithdrawFault.{WithdrawFault}
 use Rattle.time_desk.specs.declared.fault.WithdrawFault.TheVariants as withdraw_fault
-use Rattle.time_desk.specs.Cycling.{CycleWants, Cycles, CyclesNone, DoesBy, FailsToReadFor, FailsToSeal, StarvesBy, Tries, TriesNone}
+use Rattle.time_desk.specs.Cycling.{CycleWants, Cycles, CyclesNone, DoesBy, FailsToReadFor, FailsToSeal, RunsOutOfMemoryBy, Tries, TriesNone}
 use Rattle.time_desk.specs.Withdrawing.{WithdrawalWants, Withdraws, WithdrawsNone}
 use Rattle.desk_journal.specs.Lasting.{Lasting}
 use Rattle.desk_journal.specs.Reading.{IsStill, ReadsWell}
@@ -32,10 +32,10 @@ use Rattle.console_session.specs.declared.reply.Reply.{Reply}
 use Rattle.console_session.specs.Answers.{Answer, answer, answer_text, pointless, uncycled}
 use Rattle.console_session.specs.ConsoleTurn.{failed, gone_back, rewound, tells}
 use Rattle.console_session.specs.Hindrance.{Hindrance, Clear, Unanswered, Unread, UnreadRefused, UnreadUnheard, Misread, gone_back_under, rewound_under, told_under, tried_under}
-use Rattle.console_session.specs.Hearing.{AnswersRequest, Starves, Tells, TellsCycleFault, TellsDiskFault, TellsOnly, TellsRead, TellsUnread, TellsWithdrawFault, reply}
+use Rattle.console_session.specs.Hearing.{AnswersRequest, RunsOutOfMemory, Tells, TellsCycleFault, TellsDiskFault, TellsOnly, TellsRead, TellsUnread, TellsWithdrawFault, reply}
 use Rattle.console_session.proofs.Deciding.{IsSame, kept_decided, text_decided}
 use Rattle.console_session.proofs.Numbering.{record_is_not, IsNew, fresh_is_new, fresh_withdrawal_is_new}
-use Rattle.console_session.proofs.Turns.{held_of, Still, Truth, IsQuiet, as_it_was, reads_well, reads_wrong, none_starved, Wants, Under, turn_at, told_turn, unread_turn, starved_unread, lost_unread, read_turn, under_as, serves_told, unsealed_turn, rewound_wants, starved_turn, kept_stays}
+use Rattle.console_session.proofs.Turns.{held_of, Still, Truth, IsQuiet, as_it_was, reads_well, reads_wrong, none_out_of_memory, Wants, Under, turn_at, told_turn, unread_turn, out_of_memory_unread, lost_unread, read_turn, under_as, serves_told, unsealed_turn, rewound_wants, out_of_memory_turn, kept_stays}
 
 module _ {D : Type 0} (told : D → DiskTold) where
   -- ---- by what is due
@@ -91,55 +91,55 @@ module _ {D : Type 0} (told : D → DiskTold) where
 
   -- it was sealed, over texts that are not those that were stored
   misread_turn : (what : JournalRecord) (left : Cycled → Kept) (due : Cycled) (said : List ℕ) (old new : Lasting D) (r : Reply) → Seals told (what ∷ []) [] old new → ReadsWell told old new
-      → Fed (told old.disk) (told new.disk) → r ≡ reply said Rewinds → (HoldsTexts told old → ⊥)
+      → FindsMemory (told old.disk) (told new.disk) → r ≡ reply said Rewinds → (HoldsTexts told old → ⊥)
       → Under told (λ h. rewound_under h old.kept (rewound old.kept what left due) (failed old.kept what)) old new r
-  misread_turn what left due said old new r seals well fed e not =
-      (Misread said new.kept, record { reply_is = e; kept = refl; seals = seals; read = reads_wrong told old new well not; starved = none_starved told old new fed })
+  misread_turn what left due said old new r seals well finds_memory e not =
+      (Misread said new.kept, record { reply_is = e; kept = refl; seals = seals; read = reads_wrong told old new well not; out_of_memory = none_out_of_memory told old new finds_memory })
 
   -- it was sealed, and what is kept is what it leaves: its report is told, or nothing is said
   made_turn : (what : JournalRecord) (left : Cycled → Kept) (due : Cycled) (report : Report) (old new : Lasting D) (r : Reply) → IsMade left due report old new
-      → Seals told (what ∷ []) [] old new → ReadsWell told old new → Fed (told old.disk) (told new.disk) → new.kept ≡ left due → TellsOnly (answer 200 (report_data old.kept.house report)) Rewinds r
+      → Seals told (what ∷ []) [] old new → ReadsWell told old new → FindsMemory (told old.disk) (told new.disk) → new.kept ≡ left due → TellsOnly (answer 200 (report_data old.kept.house report)) Rewinds r
       → IsSame (report_text old report) (report_text old due.report)
       → Under told (λ h. rewound_under h old.kept (rewound old.kept what left due) (failed old.kept what)) old new r
-  made_turn what left due report old new r made seals well fed kept (inl e) (inl same) =
-      (Clear, record { reply_is = e ∙ ap (λ (t : List ℕ). reply t Rewinds) same; kept = kept; seals = seals; read = reads_well told old new well; starved = none_starved told old new fed })
-  made_turn what left due report old new r made seals well fed kept (inl e) (inr other) = misread_turn what left due (report_text old report) old new r seals well fed e (λ h. other (ap (report_text old) (made h).0))
-  made_turn what left due report old new r made seals well fed kept (inr e) same =
-      (Unanswered, record { reply_is = e; kept = kept; seals = seals; read = reads_well told old new well; starved = none_starved told old new fed })
+  made_turn what left due report old new r made seals well finds_memory kept (inl e) (inl same) =
+      (Clear, record { reply_is = e ∙ ap (λ (t : List ℕ). reply t Rewinds) same; kept = kept; seals = seals; read = reads_well told old new well; out_of_memory = none_out_of_memory told old new finds_memory })
+  made_turn what left due report old new r made seals well finds_memory kept (inl e) (inr other) = misread_turn what left due (report_text old report) old new r seals well finds_memory e (λ h. other (ap (report_text old) (made h).0))
+  made_turn what left due report old new r made seals well finds_memory kept (inr e) same =
+      (Unanswered, record { reply_is = e; kept = kept; seals = seals; read = reads_well told old new well; out_of_memory = none_out_of_memory told old new finds_memory })
 
   rewound_turn : (what : JournalRecord) (left : Cycled → Kept) (due : Cycled) (report : Report) (old new : Lasting D) (r : Reply) → IsMade left due report old new
-      → Seals told (what ∷ []) [] old new → ReadsWell told old new → Fed (told old.disk) (told new.disk) → TellsOnly (answer 200 (report_data old.kept.house report)) Rewinds r → IsSame new.kept (left due)
+      → Seals told (what ∷ []) [] old new → ReadsWell told old new → FindsMemory (told old.disk) (told new.disk) → TellsOnly (answer 200 (report_data old.kept.house report)) Rewinds r → IsSame new.kept (left due)
       → Under told (λ h. rewound_under h old.kept (rewound old.kept what left due) (failed old.kept what)) old new r
-  rewound_turn what left due report old new r made seals well fed says (inl kept) =
-      made_turn what left due report old new r made seals well fed kept says (text_decided (report_text old report) (report_text old due.report))
-  rewound_turn what left due report old new r made seals well fed (inl e) (inr other) = misread_turn what left due (report_text old report) old new r seals well fed e (λ h. other (made h).1)
-  rewound_turn what left due report old new r made seals well fed (inr e) (inr other) = misread_turn what left due [] old new r seals well fed e (λ h. other (made h).1)
+  rewound_turn what left due report old new r made seals well finds_memory says (inl kept) =
+      made_turn what left due report old new r made seals well finds_memory kept says (text_decided (report_text old report) (report_text old due.report))
+  rewound_turn what left due report old new r made seals well finds_memory (inl e) (inr other) = misread_turn what left due (report_text old report) old new r seals well finds_memory e (λ h. other (made h).1)
+  rewound_turn what left due report old new r made seals well finds_memory (inr e) (inr other) = misread_turn what left due [] old new r seals well finds_memory e (λ h. other (made h).1)
 
   due_done : (missing : Answer) (what : JournalRecord) (left : Cycled → Kept) (due : Due) (report : Report) (old new : Lasting D) (r : Reply) → IsNew due → DoesBy told what left old new report due
-      → ReadsWell told old new → Fed (told old.disk) (told new.disk) → TellsOnly (answer 200 (report_data new.kept.house report)) Rewinds r → ServesDue missing what left due old new r
-  due_done missing what left (Repeats earlier) report old new r is_new by well fed says = absurd is_new
-  due_done missing what left NoPoint report old new r is_new by well fed says = absurd by
-  due_done missing what left NoNumbers report old new r is_new by well fed says = absurd by
-  due_done missing what left (IsDue due) report old new r is_new by well fed says =
+      → ReadsWell told old new → FindsMemory (told old.disk) (told new.disk) → TellsOnly (answer 200 (report_data new.kept.house report)) Rewinds r → ServesDue missing what left due old new r
+  due_done missing what left (Repeats earlier) report old new r is_new by well finds_memory says = absurd is_new
+  due_done missing what left NoPoint report old new r is_new by well finds_memory says = absurd by
+  due_done missing what left NoNumbers report old new r is_new by well finds_memory says = absurd by
+  due_done missing what left (IsDue due) report old new r is_new by well finds_memory says =
       let of_old = subst (λ (h : House). TellsOnly (answer 200 (report_data h report)) Rewinds r) by.2.house says in
-      due_sealed missing what left due old new r (rewound_turn what left due report old new r by.1 by.2 well fed of_old (kept_decided new.kept (left due)))
+      due_sealed missing what left due old new r (rewound_turn what left due report old new r by.1 by.2 well finds_memory of_old (kept_decided new.kept (left due)))
 
   -- ---- one that is not done
 
   -- no memory was found
-  due_starved : Still told → Truth told → (missing : Answer) (what : JournalRecord) (left : Cycled → Kept) (due : Due) (old new : Lasting D) (r : Reply) → StarvesBy told old new due
-      → ReadsAlone (told old.disk) (told new.disk) ⊎ WriteStarved (told old.disk) (told new.disk) → Starves r → ServesDue missing what left due old new r
-  due_starved still truth missing what left (Repeats report) old new r by wants says =
+  due_out_of_memory : Still told → Truth told → (missing : Answer) (what : JournalRecord) (left : Cycled → Kept) (due : Due) (old new : Lasting D) (r : Reply) → RunsOutOfMemoryBy told old new due
+      → ReadsAlone (told old.disk) (told new.disk) ⊎ WriteOutOfMemory (told old.disk) (told new.disk) → RunsOutOfMemory r → ServesDue missing what left due old new r
+  due_out_of_memory still truth missing what left (Repeats report) old new r by wants says =
       due_told still missing what left (Repeats report) (answer 200 (report_data old.kept.house report)) old new r (as_it_was told truth old new by) (λ h. refl) (inr says)
-  due_starved still truth missing what left NoPoint old new r by wants says = absurd by
-  due_starved still truth missing what left NoNumbers old new r by wants says = absurd by
-  due_starved still truth missing what left (IsDue due) old new r by wants says =
+  due_out_of_memory still truth missing what left NoPoint old new r by wants says = absurd by
+  due_out_of_memory still truth missing what left NoNumbers old new r by wants says = absurd by
+  due_out_of_memory still truth missing what left (IsDue due) old new r by wants says =
       due_sealed missing what left due old new r
-      (starved_turn told _ old new r (rewound_wants old.kept (rewound old.kept what left due) (failed old.kept what)) (kept_stays told old new (by.1.kept (inr refl))) by.1 by.2 (by_wants wants) says)
+      (out_of_memory_turn told _ old new r (rewound_wants old.kept (rewound old.kept what left due) (failed old.kept what)) (kept_stays told old new (by.1.kept (inr refl))) by.1 by.2 (by_wants wants) says)
     where
-      by_wants : ReadsAlone (told old.disk) (told new.disk) ⊎ WriteStarved (told old.disk) (told new.disk) → Wants told old new
-      by_wants (inl read) = inl read.fed
-      by_wants (inr starved) = inr starved
+      by_wants : ReadsAlone (told old.disk) (told new.disk) ⊎ WriteOutOfMemory (told old.disk) (told new.disk) → Wants told old new
+      by_wants (inl read) = inl read.finds_memory
+      by_wants (inr out_of_memory) = inr out_of_memory
 
   -- one that is due
   rewinds_is : (due : Due) → IsRewinds due → (c : Cycled) × (due ≡ IsDue c)
@@ -152,18 +152,18 @@ module _ {D : Type 0} (told : D → DiskTold) where
   due_unread : Still told → (missing : Answer) (what : JournalRecord) (left : Cycled → Kept) (due : Cycled) (old new : Lasting D) (r : Reply) → IsStill told old new
       → ReadFailed (told old.disk) (told new.disk) → TellsUnread r → ServesDue missing what left (IsDue due) old new r
   due_unread still missing what left due old new r same failed (inl e) = due_sealed missing what left due old new r (Unread, unread_turn told still old new r same failed e)
-  due_unread still missing what left due old new r same failed (inr (inl e)) = due_sealed missing what left due old new r (UnreadRefused, starved_unread told still old new r same failed e)
+  due_unread still missing what left due old new r same failed (inr (inl e)) = due_sealed missing what left due old new r (UnreadRefused, out_of_memory_unread told still old new r same failed e)
   due_unread still missing what left due old new r same failed (inr (inr e)) = due_sealed missing what left due old new r (UnreadUnheard, lost_unread told still old new r same failed e)
 
   -- the disk failed: the record of one that is due could not be sealed, or a text could not be read for it
   due_failed : Still told → (missing : Answer) (what : JournalRecord) (left : Cycled → Kept) (asked : Due) (old new : Lasting D) (r : Reply) → old.closed ≡ false
-      → FailsToSeal told what old new asked ⊎ FailsToReadFor told old new asked → Fed (told old.disk) (told new.disk) → TellsDiskFault new.closed r → ServesDue missing what left asked old new r
-  due_failed still missing what left asked old new r open_is (inl fails) fed says =
+      → FailsToSeal told what old new asked ⊎ FailsToReadFor told old new asked → FindsMemory (told old.disk) (told new.disk) → TellsDiskFault new.closed r → ServesDue missing what left asked old new r
+  due_failed still missing what left asked old new r open_is (inl fails) finds_memory says =
       let closed_is : new.closed ≡ true = fails.2.closed ∙ ap (λ (b : Bool). b || true) open_is in
       due_as missing what left asked (IsDue fails.0) old new r fails.1
       (due_sealed missing what left fails.0 old new r
-      (unsealed_turn told _ what old new r refl refl (subst (λ (b : Bool). TellsDiskFault b r) closed_is says) (kept_stays told old new (fails.2.kept (inr refl))) fails.2 fails.3 fed))
-  due_failed still missing what left asked old new r open_is (inr fails) fed says =
+      (unsealed_turn told _ what old new r refl refl (subst (λ (b : Bool). TellsDiskFault b r) closed_is says) (kept_stays told old new (fails.2.kept (inr refl))) fails.2 fails.3 finds_memory))
+  due_failed still missing what left asked old new r open_is (inr fails) finds_memory says =
       let due = rewinds_is asked fails.0 in
       due_as missing what left asked (IsDue due.0) old new r due.1
       (due_unread still missing what left due.0 old new r fails.1 fails.2 (subst (λ (b : Bool). TellsDiskFault b r) (fails.1.closed ∙ open_is) says))
@@ -184,11 +184,11 @@ module _ {D : Type 0} (told : D → DiskTold) where
 
   -- a cycle under a new key is done
   pub cycle_done : (at : ℕ) (ask : CycleAsk) (report : Report) (old new : Lasting D) (r : Reply) → report_of old.kept.reports ask.key ≡ None
-      → Cycles told at ask old new report → ReadsWell told old new → Fed (told old.disk) (told new.disk) → TellsOnly (answer 200 (report_data new.kept.house report)) Rewinds r
+      → Cycles told at ask old new report → ReadsWell told old new → FindsMemory (told old.disk) (told new.disk) → TellsOnly (answer 200 (report_data new.kept.house report)) Rewinds r
       → AnswersRequest told at (Ok (Whole (route.Cycle ask))) old new r
-  cycle_done at ask report old new r fresh by well fed says =
+  cycle_done at ask report old new r fresh by well finds_memory says =
       cycles at ask old new r
-      (due_done (pointless ask.point) (Cycle old.kept.next at ask) (after_cycle old.kept ask) (cycle_due old.kept at ask) report old new r (fresh_is_new old.kept at ask fresh) by well fed says)
+      (due_done (pointless ask.point) (Cycle old.kept.next at ask) (after_cycle old.kept ask) (cycle_due old.kept at ask) report old new r (fresh_is_new old.kept at ask fresh) by well finds_memory says)
 
   pub cycle_not_done : Still told → Truth told → (at : ℕ) (ask : CycleAsk) (old new : Lasting D) (f : CycleFault) (r : Reply) → CyclesNone told at ask old new f
       → CycleWants told old.disk new.disk f → TellsCycleFault new.closed f r → AnswersRequest told at (Ok (Whole (route.Cycle ask))) old new r
@@ -199,12 +199,12 @@ module _ {D : Type 0} (told : D → DiskTold) where
   cycle_not_done still truth at ask old new (cycle_fault.Numbers next) r none wants says =
       cycles at ask old new r
       (due_numberless still truth (pointless ask.point) (Cycle old.kept.next at ask) (after_cycle old.kept ask) (cycle_due old.kept at ask) next old new r none.1 none.2 none.3 says)
-  cycle_not_done still truth at ask old new cycle_fault.Disk r none fed says =
+  cycle_not_done still truth at ask old new cycle_fault.Disk r none finds_memory says =
       cycles at ask old new r
-      (due_failed still (pointless ask.point) (Cycle old.kept.next at ask) (after_cycle old.kept ask) (cycle_due old.kept at ask) old new r none.0 none.1 fed says)
+      (due_failed still (pointless ask.point) (Cycle old.kept.next at ask) (after_cycle old.kept ask) (cycle_due old.kept at ask) old new r none.0 none.1 finds_memory says)
   cycle_not_done still truth at ask old new cycle_fault.NoMemory r none wants says =
       cycles at ask old new r
-      (due_starved still truth (pointless ask.point) (Cycle old.kept.next at ask) (after_cycle old.kept ask) (cycle_due old.kept at ask) old new r none wants says)
+      (due_out_of_memory still truth (pointless ask.point) (Cycle old.kept.next at ask) (after_cycle old.kept ask) (cycle_due old.kept at ask) old new r none wants says)
   cycle_not_done still truth at ask old new cycle_fault.Closed r none wants says = absurd says
 
   -- ---- withdrawals
@@ -224,12 +224,12 @@ module _ {D : Type 0} (told : D → DiskTold) where
 
   -- a withdrawal under a new key is done
   pub withdrawal_done : (at : ℕ) (key : List ℕ) (of : ℕ) (report : Report) (old new : Lasting D) (r : Reply) → report_of old.kept.reports key ≡ None
-      → Withdraws told at key of old new report → ReadsWell told old new → Fed (told old.disk) (told new.disk) → TellsOnly (answer 200 (report_data new.kept.house report)) Rewinds r
+      → Withdraws told at key of old new report → ReadsWell told old new → FindsMemory (told old.disk) (told new.disk) → TellsOnly (answer 200 (report_data new.kept.house report)) Rewinds r
       → AnswersRequest told at (Ok (Whole (route.Withdraw key of))) old new r
-  withdrawal_done at key of report old new r fresh by well fed says =
+  withdrawal_done at key of report old new r fresh by well finds_memory says =
       withdrawals at key of old new r
       (due_done (uncycled of) (Withdraw old.kept.next at key of) (after_withdrawal old.kept key) (withdraw_due old.kept at key of) report old new r
-      (fresh_withdrawal_is_new old.kept at key of fresh) by well fed says)
+      (fresh_withdrawal_is_new old.kept at key of fresh) by well finds_memory says)
 
   pub withdrawal_not_done : Still told → Truth told → (at : ℕ) (key : List ℕ) (of : ℕ) (old new : Lasting D) (f : WithdrawFault) (r : Reply) → WithdrawsNone told at key of old new f
       → WithdrawalWants told old.disk new.disk f → TellsWithdrawFault new.closed f r → AnswersRequest told at (Ok (Whole (route.Withdraw key of))) old new r
@@ -240,12 +240,12 @@ module _ {D : Type 0} (told : D → DiskTold) where
   withdrawal_not_done still truth at key of old new (withdraw_fault.Numbers next) r none wants says =
       withdrawals at key of old new r
       (due_numberless still truth (uncycled of) (Withdraw old.kept.next at key of) (after_withdrawal old.kept key) (withdraw_due old.kept at key of) next old new r none.1 none.2 none.3 says)
-  withdrawal_not_done still truth at key of old new withdraw_fault.Disk r none fed says =
+  withdrawal_not_done still truth at key of old new withdraw_fault.Disk r none finds_memory says =
       withdrawals at key of old new r
-      (due_failed still (uncycled of) (Withdraw old.kept.next at key of) (after_withdrawal old.kept key) (withdraw_due old.kept at key of) old new r none.0 none.1 fed says)
+      (due_failed still (uncycled of) (Withdraw old.kept.next at key of) (after_withdrawal old.kept key) (withdraw_due old.kept at key of) old new r none.0 none.1 finds_memory says)
   withdrawal_not_done still truth at key of old new withdraw_fault.NoMemory r none wants says =
       withdrawals at key of old new r
-      (due_starved still truth (uncycled of) (Withdraw old.kept.next at key of) (after_withdrawal old.kept key) (withdraw_due old.kept at key of) old new r none wants says)
+      (due_out_of_memory still truth (uncycled of) (Withdraw old.kept.next at key of) (after_withdrawal old.kept key) (withdraw_due old.kept at key of) old new r none wants says)
   withdrawal_not_done still truth at key of old new withdraw_fault.Closed r none wants says = absurd says
 
   -- ---- trials

@@ -2,8 +2,8 @@
 use Rattle.std.proofs.Common.{◌≡◌, ℕ, Bool, true, false, List, [], ◌∷◌, Option, Some, None, refl, sym, ap, ◌∙◌, subst, arith, inl, inr, true≢false}
 use Rattle.std.specs.Option.{option_map_or}
 use Rattle.std.specs.Prelude.{◌⊎◌, IsSome, length, nat_lt, option_map, unwrap_or, Result, Ok, Err}
-use Rattle.undo_outside.specs.Disk.{DiskTold, IsHonest, ReadFailed, WriteStarved}
-use Rattle.seal_log.specs.Causes.{Fed, SealWants, Starves as FindsNone}
+use Rattle.undo_outside.specs.Disk.{DiskTold, IsHonest, ReadFailed, WriteOutOfMemory}
+use Rattle.seal_log.specs.Causes.{FindsMemory, SealWants, RunsOutOfMemory as FindsNone}
 use Rattle.seal_log.proofs.Uses.{reads_none}
 use Rattle.verb_core.specs.declared.item.Act.{Act}
 use Rattle.verb_core.specs.declared.mailbox.Body.{Body}
@@ -42,16 +42,16 @@ use Rattle.console_session.specs.declared.reply.After.TheVariants.{Closes, Fails
 use Rattle.console_session.specs.declared.reply.Reply.{Reply}
 use Rattle.console_session.specs.Answers.{Answer, answer, answer_text, plan_answer, planned, pointless, refused, told_plainly}
 use Rattle.console_session.specs.ConsoleTurn.{ConsoleTurn, done, failed, kept_as_it_is, tells, upgrade_done, upgraded_once}
-use Rattle.console_session.specs.Hindrance.{Hindrance, Clear, Refused, Unheard, Unanswered, Unsealed, Untold, Unwritten, UnwrittenUnheard, Unread, UnreadRefused, UnreadUnheard, Misread, behind_a_read, behind_a_write, found_under, hindered, lost, misread, read_under, rewound_under, routed_under, sealed_under, starved, told_under, unanswered, unread, upgraded_under, where_read}
-use Rattle.console_session.specs.Hearing.{IsTurn, AnswersRequest, Starves, Tells, TellsCycleFault, TellsFault, TellsFound, TellsOnly, TellsRead, TellsReadFault, TellsSealFault, reply}
+use Rattle.console_session.specs.Hindrance.{Hindrance, Clear, Refused, Unheard, Unanswered, Unsealed, Untold, Unwritten, UnwrittenUnheard, Unread, UnreadRefused, UnreadUnheard, Misread, behind_a_read, behind_a_write, found_under, hindered, lost, misread, read_under, rewound_under, routed_under, sealed_under, out_of_memory, told_under, unanswered, unread, upgraded_under, where_read}
+use Rattle.console_session.specs.Hearing.{IsTurn, AnswersRequest, RunsOutOfMemory, Tells, TellsCycleFault, TellsFault, TellsFound, TellsOnly, TellsRead, TellsReadFault, TellsSealFault, reply}
 use Rattle.console_session.proofs.Deciding.{IsSame, text_decided}
 use Rattle.console_session.proofs.Numbering.{number_left, act_with, act_without, record_is_not, act_seals, less_is}
 
 -- where no memory is found a turn that seals a record is this
 pub record WantsSo (f : Hindrance → ConsoleTurn) (kept : Kept) : Type 0 where
-  pub told_is : f Refused ≡ starved kept
+  pub told_is : f Refused ≡ out_of_memory kept
   pub lost_is : f Unheard ≡ lost kept
-  pub written_is : f Unwritten ≡ behind_a_write (starved kept)
+  pub written_is : f Unwritten ≡ behind_a_write (out_of_memory kept)
   pub unheard_is : f UnwrittenUnheard ≡ behind_a_write (lost kept)
 
 -- one of a record that is sealed, and one of a cycle or a withdrawal
@@ -99,15 +99,15 @@ module _ {D : Type 0} (told : D → DiskTold) where
 
   -- each write found memory, or the last one that was made found none
   abbrev pub Wants : Lasting D → Lasting D → Type 0
-  Wants old new = Fed (told old.disk) (told new.disk) ⊎ WriteStarved (told old.disk) (told new.disk)
+  Wants old new = FindsMemory (told old.disk) (told new.disk) ⊎ WriteOutOfMemory (told old.disk) (told new.disk)
 
-  pub none_starved : (old new : Lasting D) → Fed (told old.disk) (told new.disk) → Counted 0 (told old.disk).starved (told new.disk).starved
-  none_starved old new fed = counted_none _ _ fed
+  pub none_out_of_memory : (old new : Lasting D) → FindsMemory (told old.disk) (told new.disk) → Counted 0 (told old.disk).out_of_memory (told new.disk).out_of_memory
+  none_out_of_memory old new finds_memory = counted_none _ _ finds_memory
 
   -- where no memory was found
   pub wants_of : (old new : Lasting D) → FindsNone told old.disk new.disk → Wants old new
-  wants_of old new (inl same) = inl (ap (λ (d : D). (told d).starved) same)
-  wants_of old new (inr starved) = inr starved
+  wants_of old new (inl same) = inl (ap (λ (d : D). (told d).out_of_memory) same)
+  wants_of old new (inr out_of_memory) = inr out_of_memory
 
   -- ---- turns
 
@@ -118,8 +118,8 @@ module _ {D : Type 0} (told : D → DiskTold) where
   turn_at t s old new r e turn = subst (λ (u : ConsoleTurn). IsTurn told u old new r) (sym e) turn
 
   same_turn : Still → (said : List ℕ) (after : After) (old new : Lasting D) (r : Reply) → IsQuiet old new → r ≡ reply said after
-      → IsTurn told (record { said = said; kept = old.kept; after = after; sealed = []; unsealed = []; reads = none_read; starved = 0 }) old new r
-  same_turn still said after old new r same e = record { reply_is = e; kept = same.still.kept; seals = still old new same.still; read = reads_well old new same.well; starved = none_starved old new same.still.reads.fed }
+      → IsTurn told (record { said = said; kept = old.kept; after = after; sealed = []; unsealed = []; reads = none_read; out_of_memory = 0 }) old new r
+  same_turn still said after old new r same e = record { reply_is = e; kept = same.still.kept; seals = still old new same.still; read = reads_well old new same.well; out_of_memory = none_out_of_memory old new same.still.reads.finds_memory }
 
   -- an answer that changes nothing
   pub told_turn : Still → (a : Answer) (after : After) (old new : Lasting D) (r : Reply) → IsQuiet old new → Tells a after r
@@ -132,7 +132,7 @@ module _ {D : Type 0} (told : D → DiskTold) where
   other_turn : Still → (due a : Answer) (old new : Lasting D) (r : Reply) → IsQuiet old new → (HoldsTexts told old → a ≡ due) → r ≡ reply (answer_text a) Closes
       → (answer_text a ≡ answer_text due → ⊥) → IsTurn told (misread (answer_text a) old.kept (tells due Closes old.kept)) old new r
   other_turn still due a old new r same holds e other =
-      record { reply_is = e; kept = same.still.kept; seals = still old new same.still; read = reads_wrong old new same.well (λ h. other (ap answer_text (holds h))); starved = none_starved old new same.still.reads.fed }
+      record { reply_is = e; kept = same.still.kept; seals = still old new same.still; read = reads_wrong old new same.well (λ h. other (ap answer_text (holds h))); out_of_memory = none_out_of_memory old new same.still.reads.finds_memory }
 
   -- an answer that is made of texts: the one that is due, or another
   answer_turn : Still → (due a : Answer) (old new : Lasting D) (r : Reply) → IsQuiet old new → (HoldsTexts told old → a ≡ due) → r ≡ reply (answer_text a) Closes
@@ -147,16 +147,16 @@ module _ {D : Type 0} (told : D → DiskTold) where
 
   pub unread_turn : Still → (old new : Lasting D) (r : Reply) → IsStill told old new → ReadFailed (told old.disk) (told new.disk) → r ≡ reply (unread old.kept).said Closes
       → IsTurn told (unread old.kept) old new r
-  unread_turn still old new r same failed e = record { reply_is = e; kept = same.kept; seals = still old new same; read = reads_ill old new failed; starved = none_starved old new same.reads.fed }
+  unread_turn still old new r same failed e = record { reply_is = e; kept = same.kept; seals = still old new same; read = reads_ill old new failed; out_of_memory = none_out_of_memory old new same.reads.finds_memory }
 
   -- and no memory was found for telling that, or for telling anything
-  pub starved_unread : Still → (old new : Lasting D) (r : Reply) → IsStill told old new → ReadFailed (told old.disk) (told new.disk) → r ≡ reply (starved old.kept).said Closes
-      → IsTurn told (behind_a_read (starved old.kept)) old new r
-  starved_unread still old new r same failed e = record { reply_is = e; kept = same.kept; seals = still old new same; read = reads_ill old new failed; starved = none_starved old new same.reads.fed }
+  pub out_of_memory_unread : Still → (old new : Lasting D) (r : Reply) → IsStill told old new → ReadFailed (told old.disk) (told new.disk) → r ≡ reply (out_of_memory old.kept).said Closes
+      → IsTurn told (behind_a_read (out_of_memory old.kept)) old new r
+  out_of_memory_unread still old new r same failed e = record { reply_is = e; kept = same.kept; seals = still old new same; read = reads_ill old new failed; out_of_memory = none_out_of_memory old new same.reads.finds_memory }
 
   pub lost_unread : Still → (old new : Lasting D) (r : Reply) → IsStill told old new → ReadFailed (told old.disk) (told new.disk) → r ≡ reply [] Closes
       → IsTurn told (behind_a_read (lost old.kept)) old new r
-  lost_unread still old new r same failed e = record { reply_is = e; kept = same.kept; seals = still old new same; read = reads_ill old new failed; starved = none_starved old new same.reads.fed }
+  lost_unread still old new r same failed e = record { reply_is = e; kept = same.kept; seals = still old new same; read = reads_ill old new failed; out_of_memory = none_out_of_memory old new same.reads.finds_memory }
 
   -- where some may be to be read, the disk is to hold them
   pub held_of : (old : Lasting D) → HoldsTexts told old ⊎ (true ≡ false) → HoldsTexts told old
@@ -172,7 +172,7 @@ module _ {D : Type 0} (told : D → DiskTold) where
       (Refused, same_turn still (answer_text (refused NoMemory)) Closes old new r (record { still = same; well = well }) e)
   read_turn still true due old new r same (inl (a, holds, well, inr (inr e))) = (Unheard, same_turn still [] Closes old new r (record { still = same; well = well }) e)
   read_turn still true due old new r same (inr (is, failed, inl e)) = (Unread, unread_turn still old new r same failed e)
-  read_turn still true due old new r same (inr (is, failed, inr (inl e))) = (UnreadRefused, starved_unread still old new r same failed e)
+  read_turn still true due old new r same (inr (is, failed, inr (inl e))) = (UnreadRefused, out_of_memory_unread still old new r same failed e)
   read_turn still true due old new r same (inr (is, failed, inr (inr e))) = (UnreadUnheard, lost_unread still old new r same failed e)
   read_turn still false due old new r same (inl (a, holds, well, inl e)) =
       memory_turn still due a old new r (record { still = same; well = well }) (holds (inr refl)) e
@@ -231,23 +231,23 @@ module _ {D : Type 0} (told : D → DiskTold) where
   -- a record could not be sealed, and that is told or nothing is said
   pub unsealed_turn : (f : Hindrance → ConsoleTurn) (what : JournalRecord) (old new : Lasting D) (r : Reply) → f Unsealed ≡ failed old.kept what → f Untold ≡ unanswered (failed old.kept what)
       → TellsOnly (answer 500 (error_data Disk)) Fails r → new.kept ≡ old.kept → Seals told [] (what ∷ []) old new → ReadsWell told old new
-      → Fed (told old.disk) (told new.disk) → Under f old new r
-  unsealed_turn f what old new r told_is untold_is (inl e) kept seals well fed =
-      (Unsealed, turn_at _ _ old new r told_is (record { reply_is = e; kept = kept; seals = seals; read = reads_well old new well; starved = none_starved old new fed }))
-  unsealed_turn f what old new r told_is untold_is (inr e) kept seals well fed =
-      (Untold, turn_at _ _ old new r untold_is (record { reply_is = e; kept = kept; seals = seals; read = reads_well old new well; starved = none_starved old new fed }))
+      → FindsMemory (told old.disk) (told new.disk) → Under f old new r
+  unsealed_turn f what old new r told_is untold_is (inl e) kept seals well finds_memory =
+      (Unsealed, turn_at _ _ old new r told_is (record { reply_is = e; kept = kept; seals = seals; read = reads_well old new well; out_of_memory = none_out_of_memory old new finds_memory }))
+  unsealed_turn f what old new r told_is untold_is (inr e) kept seals well finds_memory =
+      (Untold, turn_at _ _ old new r untold_is (record { reply_is = e; kept = kept; seals = seals; read = reads_well old new well; out_of_memory = none_out_of_memory old new finds_memory }))
 
   -- no memory was found before anything was sealed, or in a write of it
-  pub starved_turn : (f : Hindrance → ConsoleTurn) (old new : Lasting D) (r : Reply) → WantsSo f old.kept → new.kept ≡ old.kept → Seals told [] [] old new → ReadsWell told old new
-      → Wants old new → Starves r → Under f old new r
-  starved_turn f old new r so kept seals well (inl fed) (inl e) =
-      (Refused, turn_at _ _ old new r so.told_is (record { reply_is = e; kept = kept; seals = seals; read = reads_well old new well; starved = none_starved old new fed }))
-  starved_turn f old new r so kept seals well (inl fed) (inr e) =
-      (Unheard, turn_at _ _ old new r so.lost_is (record { reply_is = e; kept = kept; seals = seals; read = reads_well old new well; starved = none_starved old new fed }))
-  starved_turn f old new r so kept seals well (inr wants) (inl e) =
-      (Unwritten, turn_at _ _ old new r so.written_is (record { reply_is = e; kept = kept; seals = seals; read = reads_well old new well; starved = wants.0 }))
-  starved_turn f old new r so kept seals well (inr wants) (inr e) =
-      (UnwrittenUnheard, turn_at _ _ old new r so.unheard_is (record { reply_is = e; kept = kept; seals = seals; read = reads_well old new well; starved = wants.0 }))
+  pub out_of_memory_turn : (f : Hindrance → ConsoleTurn) (old new : Lasting D) (r : Reply) → WantsSo f old.kept → new.kept ≡ old.kept → Seals told [] [] old new → ReadsWell told old new
+      → Wants old new → RunsOutOfMemory r → Under f old new r
+  out_of_memory_turn f old new r so kept seals well (inl finds_memory) (inl e) =
+      (Refused, turn_at _ _ old new r so.told_is (record { reply_is = e; kept = kept; seals = seals; read = reads_well old new well; out_of_memory = none_out_of_memory old new finds_memory }))
+  out_of_memory_turn f old new r so kept seals well (inl finds_memory) (inr e) =
+      (Unheard, turn_at _ _ old new r so.lost_is (record { reply_is = e; kept = kept; seals = seals; read = reads_well old new well; out_of_memory = none_out_of_memory old new finds_memory }))
+  out_of_memory_turn f old new r so kept seals well (inr wants) (inl e) =
+      (Unwritten, turn_at _ _ old new r so.written_is (record { reply_is = e; kept = kept; seals = seals; read = reads_well old new well; out_of_memory = wants.0 }))
+  out_of_memory_turn f old new r so kept seals well (inr wants) (inr e) =
+      (UnwrittenUnheard, turn_at _ _ old new r so.unheard_is (record { reply_is = e; kept = kept; seals = seals; read = reads_well old new well; out_of_memory = wants.0 }))
 
   -- where nothing was sealed, what was kept is kept
   pub kept_stays : (old new : Lasting D) → after_records old.kept [] ≡ Some new.kept → new.kept ≡ old.kept
@@ -268,14 +268,14 @@ module _ {D : Type 0} (told : D → DiskTold) where
   -- it was sealed, and that is told or nothing is said
   done_turn : (at : ℕ) (act : Act) (old new : Lasting D) (r : Reply) → TellsOnly (answer 200 (number_data old.kept.next)) Closes r
       → new.kept ≡ performed old.kept (act_item old.kept.next at act) → Seals told (Operator old.kept.next at act ∷ []) [] old new → ReadsWell told old new
-      → Fed (told old.disk) (told new.disk) → Under (λ h. sealed_under h old.kept (done at old.kept act) (failed old.kept (Operator old.kept.next at act))) old new r
-  done_turn at act old new r (inl e) kept seals well fed = (Clear, record { reply_is = e; kept = kept; seals = seals; read = reads_well old new well; starved = none_starved old new fed })
-  done_turn at act old new r (inr e) kept seals well fed = (Unanswered, record { reply_is = e; kept = kept; seals = seals; read = reads_well old new well; starved = none_starved old new fed })
+      → FindsMemory (told old.disk) (told new.disk) → Under (λ h. sealed_under h old.kept (done at old.kept act) (failed old.kept (Operator old.kept.next at act))) old new r
+  done_turn at act old new r (inl e) kept seals well finds_memory = (Clear, record { reply_is = e; kept = kept; seals = seals; read = reads_well old new well; out_of_memory = none_out_of_memory old new finds_memory })
+  done_turn at act old new r (inr e) kept seals well finds_memory = (Unanswered, record { reply_is = e; kept = kept; seals = seals; read = reads_well old new well; out_of_memory = none_out_of_memory old new finds_memory })
 
   pub act_done : (at : ℕ) (act : Act) (old new : Lasting D) (r : Reply) → TellsOnly (answer 200 (number_data old.kept.next)) Closes r
       → new.kept ≡ performed old.kept (act_item old.kept.next at act) → Seals told (Operator old.kept.next at act ∷ []) [] old new → ReadsWell told old new
-      → Fed (told old.disk) (told new.disk) → AnswersRequest told at (Ok (Whole (route.Act act))) old new r
-  act_done at act old new r says kept seals well fed = acts at act old new r (number_left old.kept new.kept at act (seals.kept (inr refl))) (done_turn at act old new r says kept seals well fed)
+      → FindsMemory (told old.disk) (told new.disk) → AnswersRequest told at (Ok (Whole (route.Act act))) old new r
+  act_done at act old new r says kept seals well finds_memory = acts at act old new r (number_left old.kept new.kept at act (seals.kept (inr refl))) (done_turn at act old new r says kept seals well finds_memory)
 
   none_left : Still → Truth → (at next : ℕ) (act : Act) (old new : Lasting D) (r : Reply) → next ≡ old.kept.next → old.kept.next ≡ 4194304 → new ≡ old
       → Tells (answer 507 (numbers_data next)) Closes r → AnswersRequest told at (Ok (Whole (route.Act act))) old new r
@@ -286,11 +286,11 @@ module _ {D : Type 0} (told : D → DiskTold) where
   pub act_not_done : Still → Truth → (at : ℕ) (act : Act) (old new : Lasting D) (f : ActFault) (r : Reply) → ActsNone told at act old new f → new.kept ≡ old.kept → ReadsWell told old new
       → ActWants told old.disk new.disk f → TellsFault f r → AnswersRequest told at (Ok (Whole (route.Act act))) old new r
   act_not_done still truth at act old new (fault.Numbers next) r none kept well wants says = none_left still truth at next act old new r none.1 none.2 none.3 says
-  act_not_done still truth at act old new fault.Disk r none kept well fed says =
-      acts at act old new r (less_is old.kept.next none.1) (unsealed_turn _ (Operator old.kept.next at act) old new r refl refl says kept none.2 well fed)
+  act_not_done still truth at act old new fault.Disk r none kept well finds_memory says =
+      acts at act old new r (less_is old.kept.next none.1) (unsealed_turn _ (Operator old.kept.next at act) old new r refl refl says kept none.2 well finds_memory)
   act_not_done still truth at act old new fault.NoMemory r none kept well wants says =
       acts at act old new r (less_is old.kept.next none.1)
-      (starved_turn _ old new r (sealed_wants old.kept (done at old.kept act) (failed old.kept (Operator old.kept.next at act))) kept none.2 well (wants_of old new wants) says)
+      (out_of_memory_turn _ old new r (sealed_wants old.kept (done at old.kept act) (failed old.kept (Operator old.kept.next at act))) kept none.2 well (wants_of old new wants) says)
   act_not_done still truth at act old new fault.Closed r none kept well wants says = absurd says
 
   -- ---- snapshots
@@ -304,15 +304,15 @@ module _ {D : Type 0} (told : D → DiskTold) where
 
   -- it was sealed, and that is told or nothing is said
   kept_turn : (old new : Lasting D) (r : Reply) → TellsOnly (answer 200 (items_data (length old.kept.timeline))) Closes r
-      → new.kept ≡ snapshotted old.kept → Seals told (snapshot_record old.kept ∷ []) [] old new → ReadsWell told old new → Fed (told old.disk) (told new.disk) → Snapping old new r
-  kept_turn old new r (inl e) kept seals well fed = (Clear, record { reply_is = e; kept = kept; seals = seals; read = reads_well old new well; starved = none_starved old new fed })
-  kept_turn old new r (inr e) kept seals well fed = (Unanswered, record { reply_is = e; kept = kept; seals = seals; read = reads_well old new well; starved = none_starved old new fed })
+      → new.kept ≡ snapshotted old.kept → Seals told (snapshot_record old.kept ∷ []) [] old new → ReadsWell told old new → FindsMemory (told old.disk) (told new.disk) → Snapping old new r
+  kept_turn old new r (inl e) kept seals well finds_memory = (Clear, record { reply_is = e; kept = kept; seals = seals; read = reads_well old new well; out_of_memory = none_out_of_memory old new finds_memory })
+  kept_turn old new r (inr e) kept seals well finds_memory = (Unanswered, record { reply_is = e; kept = kept; seals = seals; read = reads_well old new well; out_of_memory = none_out_of_memory old new finds_memory })
 
   pub snapshot_done : (at items : ℕ) (old new : Lasting D) (r : Reply) → TellsOnly (answer 200 (items_data items)) Closes r → items ≡ length old.kept.timeline
-      → new.kept ≡ snapshotted old.kept → Seals told (snapshot_record old.kept ∷ []) [] old new → ReadsWell told old new → Fed (told old.disk) (told new.disk)
+      → new.kept ≡ snapshotted old.kept → Seals told (snapshot_record old.kept ∷ []) [] old new → ReadsWell told old new → FindsMemory (told old.disk) (told new.disk)
       → AnswersRequest told at (Ok (Whole route.Snapshot)) old new r
-  snapshot_done at items old new r says count kept seals well fed =
-      snaps at old new r (kept_turn old new r (subst (λ (n : ℕ). TellsOnly (answer 200 (items_data n)) Closes r) count says) kept seals well fed)
+  snapshot_done at items old new r says count kept seals well finds_memory =
+      snaps at old new r (kept_turn old new r (subst (λ (n : ℕ). TellsOnly (answer 200 (items_data n)) Closes r) count says) kept seals well finds_memory)
 
   pub snapshot_not_done : {X : Type 0} → (at : ℕ) (old new : Lasting D) (f : SealFault) (r : Reply) → SnapshotsNone told old new f → ReadsWell told old new → SealWants {T = X} told old.disk new.disk (Err f)
       → TellsSealFault f r → AnswersRequest told at (Ok (Whole route.Snapshot)) old new r
@@ -320,7 +320,7 @@ module _ {D : Type 0} (told : D → DiskTold) where
       snaps at old new r (unsealed_turn _ (snapshot_record old.kept) old new r refl refl says (kept_stays old new (none.1.kept (inr refl))) none.1 well (wants.disk refl))
   snapshot_not_done at old new seal_fault.NoMemory r none well wants says =
       snaps at old new r
-      (starved_turn _ old new r (sealed_wants old.kept (kept_as_it_is old.kept) (failed old.kept (snapshot_record old.kept))) (kept_stays old new (none.1.kept (inr refl))) none.1 well
+      (out_of_memory_turn _ old new r (sealed_wants old.kept (kept_as_it_is old.kept) (failed old.kept (snapshot_record old.kept))) (kept_stays old new (none.1.kept (inr refl))) none.1 well
       (wants_of old new (wants.no_memory refl)) says)
   snapshot_not_done at old new seal_fault.Closed r none well wants says = absurd says
 
@@ -353,15 +353,15 @@ module _ {D : Type 0} (told : D → DiskTold) where
 
   -- it was sealed, and that is told or nothing is said
   upgraded_turn : (at : ℕ) (old new : Lasting D) (r : Reply) → TellsOnly (answer 200 upgraded_data) Upgrades r
-      → new.kept ≡ upgraded old.kept → Seals told (Upgrade at ∷ []) [] old new → ReadsWell told old new → Fed (told old.disk) (told new.disk) → Upgrading at old new r
-  upgraded_turn at old new r (inl e) kept seals well fed = (Clear, record { reply_is = e; kept = kept; seals = seals; read = reads_well old new well; starved = none_starved old new fed })
-  upgraded_turn at old new r (inr e) kept seals well fed = (Unanswered, record { reply_is = e; kept = kept; seals = seals; read = reads_well old new well; starved = none_starved old new fed })
+      → new.kept ≡ upgraded old.kept → Seals told (Upgrade at ∷ []) [] old new → ReadsWell told old new → FindsMemory (told old.disk) (told new.disk) → Upgrading at old new r
+  upgraded_turn at old new r (inl e) kept seals well finds_memory = (Clear, record { reply_is = e; kept = kept; seals = seals; read = reads_well old new well; out_of_memory = none_out_of_memory old new finds_memory })
+  upgraded_turn at old new r (inr e) kept seals well finds_memory = (Unanswered, record { reply_is = e; kept = kept; seals = seals; read = reads_well old new well; out_of_memory = none_out_of_memory old new finds_memory })
 
   -- a store that was not upgraded before is
-  pub upgrade_sealed : (at : ℕ) (old new : Lasting D) (r : Reply) → old.kept.deep ≡ false → UpgradesOnce told at old new → ReadsWell told old new → Fed (told old.disk) (told new.disk)
+  pub upgrade_sealed : (at : ℕ) (old new : Lasting D) (r : Reply) → old.kept.deep ≡ false → UpgradesOnce told at old new → ReadsWell told old new → FindsMemory (told old.disk) (told new.disk)
       → TellsOnly (answer 200 upgraded_data) Upgrades r → AnswersRequest told at (Ok (Whole route.Upgrade)) old new r
-  upgrade_sealed at old new r flat (inl again) well fed says = absurd (true≢false (sym again.0 ∙ flat))
-  upgrade_sealed at old new r flat (inr once) well fed says = upgrades at old new r flat (upgraded_turn at old new r says once.1.1 once.1.2 well fed)
+  upgrade_sealed at old new r flat (inl again) well finds_memory says = absurd (true≢false (sym again.0 ∙ flat))
+  upgrade_sealed at old new r flat (inr once) well finds_memory says = upgrades at old new r flat (upgraded_turn at old new r says once.1.1 once.1.2 well finds_memory)
 
   pub upgrade_not_sealed : {X : Type 0} → (at : ℕ) (old new : Lasting D) (f : SealFault) (r : Reply) → old.kept.deep ≡ false → UpgradesNone told at old new f → ReadsWell told old new
       → SealWants {T = X} told old.disk new.disk (Err f) → TellsSealFault f r → AnswersRequest told at (Ok (Whole route.Upgrade)) old new r
@@ -369,7 +369,7 @@ module _ {D : Type 0} (told : D → DiskTold) where
       upgrades at old new r flat (unsealed_turn _ (Upgrade at) old new r refl refl says (kept_stays old new (none.1.kept (inr refl))) none.1 well (wants.disk refl))
   upgrade_not_sealed at old new seal_fault.NoMemory r flat none well wants says =
       upgrades at old new r flat
-      (starved_turn _ old new r (sealed_wants old.kept (upgrade_done at old.kept) (failed old.kept (Upgrade at))) (kept_stays old new (none.1.kept (inr refl))) none.1 well
+      (out_of_memory_turn _ old new r (sealed_wants old.kept (upgrade_done at old.kept) (failed old.kept (Upgrade at))) (kept_stays old new (none.1.kept (inr refl))) none.1 well
       (wants_of old new (wants.no_memory refl)) says)
   upgrade_not_sealed at old new seal_fault.Closed r flat none well wants says = absurd says
 

@@ -37,15 +37,15 @@ pub record ConsoleTurn : Type 0 where
   pub sealed : List JournalRecord
   pub unsealed : List JournalRecord
   pub reads : Reads
-  pub starved : ℕ
+  pub out_of_memory : ℕ
 
 -- nothing is said yet, and the connection stays open
 abbrev pub waits : Kept → ConsoleTurn
-waits kept = record { said = []; kept = kept; after = Waits; sealed = []; unsealed = []; reads = none_read; starved = 0 }
+waits kept = record { said = []; kept = kept; after = Waits; sealed = []; unsealed = []; reads = none_read; out_of_memory = 0 }
 
 -- an answer that changes nothing
 abbrev pub tells : Answer → After → Kept → ConsoleTurn
-tells a after kept = record { said = answer_text a; kept = kept; after = after; sealed = []; unsealed = []; reads = none_read; starved = 0 }
+tells a after kept = record { said = answer_text a; kept = kept; after = after; sealed = []; unsealed = []; reads = none_read; out_of_memory = 0 }
 
 -- too few numbers are left
 abbrev pub numberless : Kept → ConsoleTurn
@@ -62,7 +62,7 @@ done at kept act = record {
   sealed = Operator kept.next at act ∷ [];
   unsealed = [];
   reads = none_read;
-  starved = 0;
+  out_of_memory = 0;
 }
 
 -- a record could not be sealed, and nothing is kept of it
@@ -74,7 +74,7 @@ failed kept what = record {
   sealed = [];
   unsealed = what ∷ [];
   reads = none_read;
-  starved = 0;
+  out_of_memory = 0;
 }
 
 -- what becomes of an act for which a number is left, or that none is left
@@ -96,7 +96,7 @@ rewound kept what left due = record {
   sealed = what ∷ [];
   unsealed = [];
   reads = none_read;
-  starved = 0;
+  out_of_memory = 0;
 }
 
 -- What becomes of a request for one, by what is due to it. A report is told again; or what it goes back to is not there, and this is
@@ -133,7 +133,7 @@ kept_as_it_is kept = record {
   sealed = snapshot_record kept ∷ [];
   unsealed = [];
   reads = none_read;
-  starved = 0;
+  out_of_memory = 0;
 }
 
 -- ---- upgrades
@@ -147,7 +147,7 @@ upgrade_done at kept = record {
   sealed = Upgrade at ∷ [];
   unsealed = [];
   reads = none_read;
-  starved = 0;
+  out_of_memory = 0;
 }
 
 -- the same where it was not upgraded before; else nothing changes, and the answer is the same

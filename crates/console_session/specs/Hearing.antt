@@ -40,12 +40,12 @@ abbrev pub reply : List ℕ → After → Reply
 reply said after = record { said = said; after = after }
 
 -- want of memory is told, or nothing is said
-abbrev pub Starves : Reply → Type 0
-Starves r = (r ≡ reply (answer_text (refused NoMemory)) Closes) ⊎ (r ≡ reply [] Closes)
+abbrev pub RunsOutOfMemory : Reply → Type 0
+RunsOutOfMemory r = (r ≡ reply (answer_text (refused NoMemory)) Closes) ⊎ (r ≡ reply [] Closes)
 
 -- an answer is told, or want of memory
 abbrev pub Tells : Answer → After → Reply → Type 0
-Tells a after r = (r ≡ reply (answer_text a) after) ⊎ Starves r
+Tells a after r = (r ≡ reply (answer_text a) after) ⊎ RunsOutOfMemory r
 
 -- an answer is told, or nothing is said
 abbrev pub TellsOnly : Answer → After → Reply → Type 0
@@ -55,13 +55,13 @@ TellsOnly a after r = (r ≡ reply (answer_text a) after) ⊎ (r ≡ reply [] af
 abbrev pub TellsFault : ActFault → Reply → Type 0
 TellsFault (fault.Numbers next) r = Tells (answer 507 (numbers_data next)) Closes r
 TellsFault fault.Disk r = TellsOnly (answer 500 (error_data Disk)) Fails r
-TellsFault fault.NoMemory r = Starves r
+TellsFault fault.NoMemory r = RunsOutOfMemory r
 TellsFault fault.Closed r = ⊥
 
 -- why the record of a snapshot or an upgrade was not sealed is told
 abbrev pub TellsSealFault : SealFault → Reply → Type 0
 TellsSealFault seal_fault.Disk r = TellsOnly (answer 500 (error_data Disk)) Fails r
-TellsSealFault seal_fault.NoMemory r = Starves r
+TellsSealFault seal_fault.NoMemory r = RunsOutOfMemory r
 TellsSealFault seal_fault.Closed r = ⊥
 
 -- that a text could not be read is told, or want of memory
@@ -71,7 +71,7 @@ TellsUnread r = Tells (answer 500 (error_data Disk)) Closes r
 -- why a text was not read is told
 abbrev pub TellsReadFault : ReadFault → Reply → Type 0
 TellsReadFault read_fault.Disk r = TellsUnread r
-TellsReadFault read_fault.NoMemory r = Starves r
+TellsReadFault read_fault.NoMemory r = RunsOutOfMemory r
 
 -- a fault of the disk is told: serving ends where a record could not be sealed, so that the desk is closed, and goes on where a text could not be read
 abbrev pub TellsDiskFault : Bool → Reply → Type 0
@@ -83,7 +83,7 @@ abbrev pub TellsCycleFault : Bool → CycleFault → Reply → Type 0
 TellsCycleFault closed (cycle_fault.Point given) r = Tells (pointless given) Closes r
 TellsCycleFault closed (cycle_fault.Numbers next) r = Tells (answer 507 (numbers_data next)) Closes r
 TellsCycleFault closed cycle_fault.Disk r = TellsDiskFault closed r
-TellsCycleFault closed cycle_fault.NoMemory r = Starves r
+TellsCycleFault closed cycle_fault.NoMemory r = RunsOutOfMemory r
 TellsCycleFault closed cycle_fault.Closed r = ⊥
 
 -- why a cycle was not withdrawn is told, over a desk that is closed then or is not
@@ -91,7 +91,7 @@ abbrev pub TellsWithdrawFault : Bool → WithdrawFault → Reply → Type 0
 TellsWithdrawFault closed (withdraw_fault.Cycle given) r = Tells (uncycled given) Closes r
 TellsWithdrawFault closed (withdraw_fault.Numbers next) r = Tells (answer 507 (numbers_data next)) Closes r
 TellsWithdrawFault closed withdraw_fault.Disk r = TellsDiskFault closed r
-TellsWithdrawFault closed withdraw_fault.NoMemory r = Starves r
+TellsWithdrawFault closed withdraw_fault.NoMemory r = RunsOutOfMemory r
 TellsWithdrawFault closed withdraw_fault.Closed r = ⊥
 
 -- ---- turns
@@ -124,7 +124,7 @@ module _ {D : Type 0} (told : D → DiskTold) where
     pub kept : new.kept ≡ t.kept
     pub seals : Seals told t.sealed t.unsealed old new
     pub read : HaveRead told old new t.reads
-    pub starved : Counted t.starved (told old.disk).starved (told new.disk).starved
+    pub out_of_memory : Counted t.out_of_memory (told old.disk).out_of_memory (told new.disk).out_of_memory
 
   -- a turn, hindered or not; where nothing is to be sealed the desk is as it was, and the disk was only read
   pub record AnswersRequest (at : ℕ) (asked : Result Asked HttpRefused) (old new : Lasting D) (r : Reply) : Type 0 where

@@ -53,11 +53,11 @@ pub data Hindrance : Type 0 where
 
 -- the connection closes with no answer
 abbrev pub lost : Kept → ConsoleTurn
-lost kept = record { said = []; kept = kept; after = Closes; sealed = []; unsealed = []; reads = none_read; starved = 0 }
+lost kept = record { said = []; kept = kept; after = Closes; sealed = []; unsealed = []; reads = none_read; out_of_memory = 0 }
 
 -- the operator is told of want of memory
-abbrev pub starved : Kept → ConsoleTurn
-starved kept = tells (refused NoMemory) Closes kept
+abbrev pub out_of_memory : Kept → ConsoleTurn
+out_of_memory kept = tells (refused NoMemory) Closes kept
 
 -- the same turn behind a read that failed
 abbrev pub behind_a_read : ConsoleTurn → ConsoleTurn
@@ -65,7 +65,7 @@ behind_a_read t = record t { reads = failed_once }
 
 -- the same turn behind a write that found no memory
 abbrev pub behind_a_write : ConsoleTurn → ConsoleTurn
-behind_a_write t = record t { starved = 1 }
+behind_a_write t = record t { out_of_memory = 1 }
 
 -- the operator is told that a text could not be read
 abbrev pub unread : Kept → ConsoleTurn
@@ -82,7 +82,7 @@ misread said left t = record t { said = said; kept = left; reads = wrong_once }
 -- a turn that seals nothing and reads no text is hindered by want of memory alone
 abbrev pub told_under : Hindrance → Kept → ConsoleTurn → ConsoleTurn
 told_under Clear kept t = t
-told_under Refused kept t = starved kept
+told_under Refused kept t = out_of_memory kept
 told_under Unheard kept t = lost kept
 told_under Unanswered kept t = t
 told_under Unsealed kept t = t
@@ -97,7 +97,7 @@ told_under (Misread said left) kept t = t
 -- one that reads texts, by them too
 abbrev pub read_under : Hindrance → Kept → ConsoleTurn → ConsoleTurn
 read_under Clear kept t = t
-read_under Refused kept t = starved kept
+read_under Refused kept t = out_of_memory kept
 read_under Unheard kept t = lost kept
 read_under Unanswered kept t = t
 read_under Unsealed kept t = t
@@ -105,19 +105,19 @@ read_under Untold kept t = t
 read_under Unwritten kept t = t
 read_under UnwrittenUnheard kept t = t
 read_under Unread kept t = unread kept
-read_under UnreadRefused kept t = behind_a_read (starved kept)
+read_under UnreadRefused kept t = behind_a_read (out_of_memory kept)
 read_under UnreadUnheard kept t = behind_a_read (lost kept)
 read_under (Misread said left) kept t = misread said kept t
 
 -- a turn that seals a record: by how it goes where that is done, and where it can't be sealed
 abbrev pub sealed_under : Hindrance → Kept → ConsoleTurn → ConsoleTurn → ConsoleTurn
 sealed_under Clear kept done unsealed = done
-sealed_under Refused kept done unsealed = starved kept
+sealed_under Refused kept done unsealed = out_of_memory kept
 sealed_under Unheard kept done unsealed = lost kept
 sealed_under Unanswered kept done unsealed = unanswered done
 sealed_under Unsealed kept done unsealed = unsealed
 sealed_under Untold kept done unsealed = unanswered unsealed
-sealed_under Unwritten kept done unsealed = behind_a_write (starved kept)
+sealed_under Unwritten kept done unsealed = behind_a_write (out_of_memory kept)
 sealed_under UnwrittenUnheard kept done unsealed = behind_a_write (lost kept)
 sealed_under Unread kept done unsealed = done
 sealed_under UnreadRefused kept done unsealed = done
@@ -127,15 +127,15 @@ sealed_under (Misread said left) kept done unsealed = done
 -- one that reads texts first
 abbrev pub rewound_under : Hindrance → Kept → ConsoleTurn → ConsoleTurn → ConsoleTurn
 rewound_under Clear kept done unsealed = done
-rewound_under Refused kept done unsealed = starved kept
+rewound_under Refused kept done unsealed = out_of_memory kept
 rewound_under Unheard kept done unsealed = lost kept
 rewound_under Unanswered kept done unsealed = unanswered done
 rewound_under Unsealed kept done unsealed = unsealed
 rewound_under Untold kept done unsealed = unanswered unsealed
-rewound_under Unwritten kept done unsealed = behind_a_write (starved kept)
+rewound_under Unwritten kept done unsealed = behind_a_write (out_of_memory kept)
 rewound_under UnwrittenUnheard kept done unsealed = behind_a_write (lost kept)
 rewound_under Unread kept done unsealed = unread kept
-rewound_under UnreadRefused kept done unsealed = behind_a_read (starved kept)
+rewound_under UnreadRefused kept done unsealed = behind_a_read (out_of_memory kept)
 rewound_under UnreadUnheard kept done unsealed = behind_a_read (lost kept)
 rewound_under (Misread said left) kept done unsealed = misread said left done
 

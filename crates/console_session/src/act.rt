@@ -8,7 +8,7 @@ ghost use Rattle.console_http.specs.declared.request.Asked.TheVariants.{Whole};
 ghost use Rattle.console_http.specs.declared.request.Route.TheVariants as route;
 ghost use Rattle.console_session.specs.Hearing.{AnswersRequest, TellsFault};
 
-use crate::reply::{After, Reply, starve, tell, tell_only, tell_unsealed};
+use crate::reply::{After, Reply, run_out_of_memory, tell, tell_only, tell_unsealed};
 use console_replies::{number_json, numbers_json};
 use std::alloc::Global;
 use time_desk::laws::seals_join;
@@ -24,7 +24,7 @@ fn tell_fault(alloc: Global, fault: ActFault) -> Reply
     match fault {
         ActFault::Numbers { next } => { tell(alloc, 507, numbers_json(alloc, next), After::Closes) }
         ActFault::Disk => tell_unsealed(alloc),
-        ActFault::NoMemory => starve(alloc),
+        ActFault::NoMemory => run_out_of_memory(alloc),
         ActFault::Closed => unreachable!(),
     }
 }

@@ -2,7 +2,7 @@
 ghost use Rattle.std.specs.Prelude.{◌≡◌, ◌≤◌, ◌<◌, IfOk, OnOk, IfErr, IsTrue, None, Ok, false};
 ghost use Rattle.store_kept.specs.Kept.{report_of};
 ghost use Rattle.repair_desk.specs.Repairs.{are_known};
-ghost use Rattle.seal_log.specs.Causes.{Fed};
+ghost use Rattle.seal_log.specs.Causes.{FindsMemory};
 ghost use Rattle.time_desk.specs.Cycling.{CycleWants, Cycles, CyclesNone};
 ghost use Rattle.desk_journal.specs.Reading.{ReadsWell};
 ghost use Rattle.console_replies.specs.Reports.{report_data};
@@ -12,7 +12,7 @@ ghost use Rattle.console_session.specs.Answers.{answer};
 ghost use Rattle.console_session.specs.Hearing.{AnswersRequest, Tells, TellsCycleFault, TellsDiskFault};
 ghost use Rattle.console_session.specs.declared.reply.After.TheVariants as after;
 
-use crate::reply::{After, Reply, starve, tell, tell_only, tell_unread, tell_unsealed};
+use crate::reply::{After, Reply, run_out_of_memory, tell, tell_only, tell_unread, tell_unsealed};
 use box_store::Steps;
 use console_replies::{numbers_json, point_json, report_json};
 use paradox::Report;
@@ -47,7 +47,7 @@ pub(crate) fn tell_fault(alloc: Global, fault: CycleFault, closed: bool) -> Repl
         CycleFault::Point { given } => { tell(alloc, 422, point_json(alloc, given), After::Closes) }
         CycleFault::Numbers { next } => tell(alloc, 507, numbers_json(alloc, next), After::Closes),
         CycleFault::Disk => tell_disk_fault(alloc, closed),
-        CycleFault::NoMemory => starve(alloc),
+        CycleFault::NoMemory => run_out_of_memory(alloc),
         CycleFault::Closed => unreachable!(),
     }
 }
@@ -82,7 +82,7 @@ fn rewind_over<D: Disk, R: Threads + Sync, G: Gate, L: Ledger>(
     ensures done { IfOk result (λ report. Cycles D.told at ask desk.old desk.new report) }
     ensures why { IfErr result (λ fault. CyclesNone D.told at ask desk.old desk.new fault) }
     ensures same { OnOk result (ReadsWell D.told desk.old desk.new) }
-    ensures fed { OnOk result (Fed (D.told desk.old.disk) (D.told desk.new.disk)) }
+    ensures finds_memory { OnOk result (FindsMemory (D.told desk.old.disk) (D.told desk.new.disk)) }
     ensures wants { IfErr result (λ fault. CycleWants D.told desk.old.disk desk.new.disk fault) }
 {
     let mut steps: Steps<L> = Steps::new(blank);
@@ -103,7 +103,7 @@ fn rewind_desk<D: Disk, R: Threads + Sync, G: Gate>(
     ensures done { IfOk result (λ report. Cycles D.told at ask desk.old desk.new report) }
     ensures why { IfErr result (λ fault. CyclesNone D.told at ask desk.old desk.new fault) }
     ensures same { OnOk result (ReadsWell D.told desk.old desk.new) }
-    ensures fed { OnOk result (Fed (D.told desk.old.disk) (D.told desk.new.disk)) }
+    ensures finds_memory { OnOk result (FindsMemory (D.told desk.old.disk) (D.told desk.new.disk)) }
     ensures wants { IfErr result (λ fault. CycleWants D.told desk.old.disk desk.new.disk fault) }
 {
     rewind_over::<D, R, G, Brand>(rt, alloc, desk, at, ask, gate, Blank::new(1))

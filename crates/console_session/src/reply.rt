@@ -5,7 +5,7 @@ ghost use Rattle.serde_json.specs.Written.{compact_text};
 ghost use Rattle.console_http.specs.declared.request.HttpRefused.TheVariants.{NoMemory as WantOfMemory};
 ghost use Rattle.console_replies.specs.Reply.{is_status};
 ghost use Rattle.console_session.specs.Answers.{answer, answer_text, refused, told_plainly};
-ghost use Rattle.console_session.specs.Hearing.{Starves, Tells, TellsDiskFault, TellsOnly, TellsUnread};
+ghost use Rattle.console_session.specs.Hearing.{RunsOutOfMemory, Tells, TellsDiskFault, TellsOnly, TellsUnread};
 ghost use Rattle.console_session.specs.declared.reply.After.TheVariants.{Closes};
 
 use console_replies::{ErrorWord, error_json, render};
@@ -66,8 +66,8 @@ fn spell_memory(alloc: Global) -> Result<Text, NoMemory>
 }
 
 /// Tells of want of memory, or nothing where there is none for that either.
-pub fn starve(alloc: Global) -> Reply
-    ensures { Starves result }
+pub fn run_out_of_memory(alloc: Global) -> Reply
+    ensures { RunsOutOfMemory result }
 {
     match spell_memory(alloc) {
         Ok(said) => Reply {
@@ -85,7 +85,7 @@ pub fn tell(alloc: Global, status: u16, body: Result<Text, NoMemory>, after: Aft
 {
     match spell(alloc, status, body) {
         Ok(said) => Reply { said, after },
-        Err(NoMemory) => starve(alloc),
+        Err(NoMemory) => run_out_of_memory(alloc),
     }
 }
 
@@ -106,7 +106,7 @@ pub fn tell_plainly(alloc: Global, text: Text) -> Reply
             said,
             after: After::Closes,
         },
-        Err(NoMemory) => starve(alloc),
+        Err(NoMemory) => run_out_of_memory(alloc),
     }
 }
 

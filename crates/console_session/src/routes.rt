@@ -16,7 +16,7 @@ ghost use Rattle.console_session.specs.declared.reply.After.TheVariants as after
 ghost use Rattle.store_kept.specs.Texts.{has_text_kept, text_kept};
 
 use crate::cycle::tell_fault;
-use crate::reply::{After, Reply, starve, tell, tell_plainly, tell_unread};
+use crate::reply::{After, Reply, run_out_of_memory, tell, tell_plainly, tell_unread};
 use console_http::HttpRefused;
 use console_replies::{
     ErrorWord, StatusCounts, body_json, box_json, conf_json, error_json, status_json, timeline_json,
@@ -116,7 +116,7 @@ fn tell_unfound(alloc: Global, fault: ReadFault) -> Reply
 {
     match fault {
         ReadFault::Disk => tell_unread(alloc),
-        ReadFault::NoMemory => starve(alloc),
+        ReadFault::NoMemory => run_out_of_memory(alloc),
     }
 }
 

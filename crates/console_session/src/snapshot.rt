@@ -4,7 +4,7 @@ ghost use Rattle.console_http.specs.declared.request.Asked.TheVariants.{Whole};
 ghost use Rattle.console_http.specs.declared.request.Route.TheVariants as route;
 ghost use Rattle.console_session.specs.Hearing.{AnswersRequest, TellsSealFault};
 
-use crate::reply::{After, Reply, starve, tell_only, tell_unsealed};
+use crate::reply::{After, Reply, run_out_of_memory, tell_only, tell_unsealed};
 use console_replies::items_json;
 use seal_log::SealFault;
 use std::alloc::Global;
@@ -18,7 +18,7 @@ pub(crate) fn tell_fault(alloc: Global, fault: SealFault) -> Reply
 {
     match fault {
         SealFault::Disk => tell_unsealed(alloc),
-        SealFault::NoMemory => starve(alloc),
+        SealFault::NoMemory => run_out_of_memory(alloc),
         SealFault::Closed => unreachable!(),
     }
 }

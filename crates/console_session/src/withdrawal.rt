@@ -1,7 +1,7 @@
 //! Withdrawals of the last cycle: sealed, put in place and then answered.
 ghost use Rattle.std.specs.Prelude.{◌≡◌, ◌≤◌, ◌<◌, IfOk, OnOk, IfErr, None, Ok, false};
 ghost use Rattle.store_kept.specs.Kept.{report_of};
-ghost use Rattle.seal_log.specs.Causes.{Fed};
+ghost use Rattle.seal_log.specs.Causes.{FindsMemory};
 ghost use Rattle.time_desk.specs.Withdrawing.{WithdrawalWants, Withdraws, WithdrawsNone};
 ghost use Rattle.desk_journal.specs.Reading.{ReadsWell};
 ghost use Rattle.console_http.specs.declared.request.Asked.TheVariants.{Whole};
@@ -9,7 +9,7 @@ ghost use Rattle.console_http.specs.declared.request.Route.TheVariants as route;
 ghost use Rattle.console_session.specs.Hearing.{AnswersRequest, TellsWithdrawFault};
 
 use crate::cycle::{tell_disk_fault, tell_report};
-use crate::reply::{After, Reply, starve, tell, tell_only};
+use crate::reply::{After, Reply, run_out_of_memory, tell, tell_only};
 use box_store::Steps;
 use console_replies::{numbers_json, report_json, uncycled_json};
 use paradox::Report;
@@ -35,7 +35,7 @@ fn tell_fault(alloc: Global, fault: WithdrawFault, closed: bool) -> Reply
             tell(alloc, 507, numbers_json(alloc, next), After::Closes)
         }
         WithdrawFault::Disk => tell_disk_fault(alloc, closed),
-        WithdrawFault::NoMemory => starve(alloc),
+        WithdrawFault::NoMemory => run_out_of_memory(alloc),
         WithdrawFault::Closed => unreachable!(),
     }
 }
@@ -58,7 +58,7 @@ fn withdraw_over<D: Disk, R: Threads + Sync, G: Gate, L: Ledger>(
     ensures done { IfOk result (λ report. Withdraws D.told at key.now of desk.old desk.new report) }
     ensures why { IfErr result (λ fault. WithdrawsNone D.told at key.now of desk.old desk.new fault) }
     ensures same { OnOk result (ReadsWell D.told desk.old desk.new) }
-    ensures fed { OnOk result (Fed (D.told desk.old.disk) (D.told desk.new.disk)) }
+    ensures finds_memory { OnOk result (FindsMemory (D.told desk.old.disk) (D.told desk.new.disk)) }
     ensures wants { IfErr result (λ fault. WithdrawalWants D.told desk.old.disk desk.new.disk fault) }
 {
     let mut steps: Steps<L> = Steps::new(blank);
@@ -79,7 +79,7 @@ fn withdraw_desk<D: Disk, R: Threads + Sync, G: Gate>(
     ensures done { IfOk result (λ report. Withdraws D.told at key.now of desk.old desk.new report) }
     ensures why { IfErr result (λ fault. WithdrawsNone D.told at key.now of desk.old desk.new fault) }
     ensures same { OnOk result (ReadsWell D.told desk.old desk.new) }
-    ensures fed { OnOk result (Fed (D.told desk.old.disk) (D.told desk.new.disk)) }
+    ensures finds_memory { OnOk result (FindsMemory (D.told desk.old.disk) (D.told desk.new.disk)) }
     ensures wants { IfErr result (λ fault. WithdrawalWants D.told desk.old.disk desk.new.disk fault) }
 {
     withdraw_over::<D, R, G, Brand>(rt, alloc, desk, at, key, of, gate, Blank::new(1))

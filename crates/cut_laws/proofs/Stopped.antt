@@ -187,7 +187,6 @@ module _ (one : (first second : JournalRecord) (bytes : List ℕ) → Spells fir
               (state_then records (what ∷ []) kept new is (ap (option_and_then (λ (k : Kept). Some k)) e))
               (ap is_empty (behind_grows records (what ∷ []) there (ap not (stands_behind kept new what e))) ∙ some_behind (behind records) what)
 
-  -- in a front
   front_bad : (records : List JournalRecord) (f : Fore) (p : List ℕ) (ps : List (List ℕ)) → Stand records (p ∷ ps) → fore_of records ≡ Some f → SpellsNone (fits (Some f)) p → Told
   front_bad records f p ps (split, short, fit) is none =
       let told : IsDamagedInFront image (length (sealed (payloads_of records))) = record {

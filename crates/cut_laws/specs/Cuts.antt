@@ -35,9 +35,9 @@ pub record CanBeKept (s : Kept) (i : Item) : Type 0 where
   pub rev : i.rev < s.next
   pub unnamed : names_number s.base.boxes i.number ≡ false
 
--- What is kept has a Format that a journal can begin with and a base that can stand; the base's texts stand by body, each of a body
--- that it names, and each body that it names has one; each item can be kept behind it; the stamps name the mailboxes; and there is
--- nothing that a journal which was just opened does not have.
+-- What is kept has a Format that a journal can begin with and a base that can stand. The base's texts stand by body, each of a body
+-- that it names, and each body that it names has one. Each item can be kept behind it, and the stamps name the mailboxes. And there
+-- is nothing that a journal which was just opened does not have.
 pub record CanBeFounded (s : Kept) : Type 0 where
   pub begins : first_fore (Format s.house s.opening) ≡ Some (record { house = s.house; opening = s.opening; based = None })
   pub base : IsTrue (base_stands s.house (based_on s.next s.deep s.base.conf s.base.boxes s.stamps s.reports))
@@ -53,8 +53,8 @@ pub record CanBeFounded (s : Kept) : Type 0 where
   pub marks : s.marks ≡ no_marks
   pub undone : s.undone ≡ None
 
--- what a cut wants of what is kept beside that it is sound: its Format is one that a journal can begin with, its next number is one that
--- a journal can have, and its reports stand by key and name known users
+-- What a cut wants of what is kept beside that it is sound. Its Format is one that a journal can begin with, its next number is one that
+-- a journal can have, and its reports stand by key and name known users.
 pub record CanBeCut (s : Kept) : Type 0 where
   pub begins : first_fore (Format s.house s.opening) ≡ Some (record { house = s.house; opening = s.opening; based = None })
   pub next : s.next ≤ 4194304
@@ -62,7 +62,7 @@ pub record CanBeCut (s : Kept) : Type 0 where
 
 -- ---- the bytes of a cut
 
--- The records of a cut can be written as its parts are given: its Base has a spelling, and so has the Kept of each later item without
+-- The records of a cut can be written as its parts are given. Its Base has a spelling, and so has the Kept of each later item without
 -- its text; and each payload has a frame.
 pub record CanBeWritten (kept : Kept) (place : ℕ) : Type 0 where
   pub base : HasSpelling (base_record (cut kept place))

@@ -45,7 +45,7 @@ pub fn cuts_open_as_they_are()
     rows_make_valid_stores();
 }
 
-/// What a journal's records leave can be cut: its Format is one that a journal can begin with, its next number is one that a journal can
+/// What a journal's records leave can be cut. Its Format is one that a journal can begin with, its next number is one that a journal can
 /// have, and its reports stand by key and name known users.
 pub fn journals_can_be_cut()
     ensures { (records : List JournalRecord) (kept : Kept) → state records ≡ Some kept → CanBeCut kept }
@@ -110,7 +110,7 @@ pub fn stopped_cuts_are_refused()
 }
 
 /// Over a cut each message stays under its UID, with its text, and what a client knows by UID lasts (RFC 3501, section 2.3.1.1). So it
-/// is behind whatever records come next in the journal of the cut: a user, name, UIDVALIDITY and UID name no other message than they
+/// is behind whatever records come next in the journal of the cut. A user, name, UIDVALIDITY and UID name no other message than they
 /// did before the past was cut off.
 pub fn uids_last_over_a_cut()
     ensures messages { (s : Kept) (place : ℕ) (id : BoxId) (stamp uid : ℕ) → IsSound s → message_at (cut s place) id stamp uid ≡ message_at s id stamp uid }
@@ -129,8 +129,8 @@ pub fn uids_last_over_a_cut()
     uids_name_one_message();
 }
 
-/// Each message that lies in the base with a user, be it of a past that was cut off, has exactly one fate: in the store that is kept it
-/// lies in one mailbox of that user under one UID, or one of the items took it out, an EXPUNGE, CLOSE, DELETE or Remove.
+/// Each message that lies in the base with a user, be it of a past that was cut off, has exactly one fate. In the store that is kept it
+/// lies in one mailbox of that user under one UID; or one of the items took it out, an EXPUNGE, CLOSE, DELETE or Remove.
 pub fn messages_of_a_base_have_one_fate()
     ensures { (records : List JournalRecord) (kept : Kept) (u : User) (key : Key) → state records ≡ Some kept → times_held u key kept.base.boxes ≢ 0 →
         IsAccountedFor kept u key }
@@ -138,7 +138,7 @@ pub fn messages_of_a_base_have_one_fate()
     states_are_sound();
 }
 
-/// What a journal's records leave has as many items as there are numbers at most; and where the records are those of an image, the
+/// What a journal's records leave has as many items as there are numbers at most. Where the records are those of an image, the
 /// mailboxes of its base, and 200 more for each item, are no more than four bytes count.
 pub fn images_hold_few_mailboxes()
     ensures items { (records : List JournalRecord) (kept : Kept) → state records ≡ Some kept → length kept.timeline ≤ 4194304 }

@@ -44,8 +44,8 @@ due_by (Some report) due = Repeats report
 abbrev pub cycle_due : Kept → ℕ → CycleAsk → Due
 cycle_due s at ask = due_by (report_of s.reports ask.key) (due_anew s at ask)
 
--- what is kept after a repair: the store that its timeline leads to, its report under the key of the request, no snapshot behind its
--- place, and what can be withdrawn from then on
+-- What is kept after a repair: the store that its timeline leads to, its report under the key of the request, and no snapshot behind
+-- its place. And what can be withdrawn from then on.
 abbrev pub after_repair : Kept → List ℕ → Cycled → Option UndoneBehind → Kept
 after_repair s key due undone = record s {
   store = run s.base due.timeline;

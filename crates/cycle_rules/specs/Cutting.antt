@@ -48,8 +48,8 @@ cut s place = record s {
 abbrev pub with_point : CycleAsk → ℕ → CycleAsk
 with_point ask point = record ask { point = point }
 
--- What a cycle leaves behind a cut at a place, against what it leaves where nothing was cut off: the items behind the place, the same
--- store, stamps and next number, and the same report but for its point.
+-- What a cycle leaves behind a cut at a place, against what it leaves where nothing was cut off. That is the items behind the place,
+-- the same store, stamps and next number, and the same report but for its point.
 pub record LeavesAlike (s : Kept) (place : ℕ) (whole behind : Cycled) : Type 0 where
   pub place_is : whole.place ≡ place + behind.place
   pub timeline : whole.timeline ≡ take place s.timeline ++ behind.timeline

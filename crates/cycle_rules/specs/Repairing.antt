@@ -1,4 +1,4 @@
--- What is performed again in the place of the timeline, line by line: what users were shown is compared with what they would be
+-- What is performed again in the place of the timeline, line by line. What users were shown is compared with what they would be
 -- shown now, and each user whose answers no longer hold gets a notice. A cycle is one such repair, and a withdrawal another.
 use Rattle.std.specs.Prelude.{ℕ, ◌+◌, Bool, ◌==◌, nat_le, List, [], ◌∷◌, ◌++◌, drop, filter, length, None}
 use Rattle.undo_base.specs.declared.keys.User.{User}
@@ -53,8 +53,8 @@ notice_items number at (n ∷ ns) = notice_item (number + 1) at n ∷ notice_ite
 
 -- ---- what is left, and what is reported
 
--- what a repair leaves: the place behind which all is performed anew, the items in force, how many of them stand before its notices,
--- the stamps, the next number, how many items entered (acts and notices), and the report
+-- What a repair leaves: the place behind which all is performed anew, the items in force, and how many of them stand before its
+-- notices. And the stamps, the next number, how many items entered (acts and notices), and the report.
 pub record Cycled : Type 0 where
   pub place : ℕ
   pub timeline : List Item
@@ -102,7 +102,6 @@ led_in s at repair = run s.base (timeline_in s at repair)
 abbrev pub stamps_in : Kept → ℕ → Repair → List (BoxId × ℕ)
 stamps_in s at repair = renewed (store_of s).boxes (led_in s at repair).boxes s.stamps s.next
 
--- The report.
 abbrev pub report_in : Kept → ℕ → Repair → Report
 report_in s at repair = record {
   cycle = s.next;

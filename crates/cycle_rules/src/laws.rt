@@ -28,7 +28,7 @@ ghost use Rattle.cycle_rules.specs.Withdrawals.{unedit_of, withdrawn_at};
 use verb_core::laws::{mail_is_kept, steps_keep_validity};
 
 /// The items that stood behind the point of a cycle can come back among those that it leaves, with whatever texts of deliveries
-/// were read, whatever was shown and whoever is told; and so can their texts, where the texts that were read are those that were
+/// were read, whatever was shown and whoever is told. So can their texts, where the texts that were read are those that were
 /// stored.
 pub fn cycles_can_be_withdrawn()
     ensures items { (s : Kept) (at : ℕ) (ask : CycleAsk) (place : ℕ) (heard : List Item) (now : List Shown) (told : List (User × List ℕ)) → place ≤ length s.timeline →
@@ -41,7 +41,7 @@ pub fn cycles_can_be_withdrawn()
         (undone_at s ask place (length (repaired_items s at ask place))) }
 {}
 
-/// The store after a withdrawal is that of the timeline before the cycle, of what came after the cycle, and of the new notices: what
+/// The store after a withdrawal is that of the timeline before the cycle, of what came after the cycle, and of the new notices. What
 /// users were shown does not matter to it. Where nothing came after the cycle, these are the timeline before it, the notices of the
 /// cycle, and those of the withdrawal.
 pub fn withdrawals_restore_stores()
@@ -64,8 +64,9 @@ pub fn cuts_keep_the_store()
     mail_is_kept();
 }
 
-/// A cycle does behind a cut what it does where nothing was cut off: at whatever place behind it, and so at the place of the cut itself,
-/// which behind the cut is that of the point 0. The numbers that are wanted are the same, and so is the place of each later point.
+/// A cycle does behind a cut what it does where nothing was cut off. That is so at whatever place behind it, and so at the place of the
+/// cut itself, which behind the cut is that of the point 0. The numbers that are wanted are the same, and so is the place of each later
+/// point.
 pub fn cycles_do_alike_behind_a_cut()
     ensures cycled { (s : Kept) (at : ℕ) (ask : CycleAsk) (place later point : ℕ) → place ≤ length s.timeline →
         LeavesAlike s place (cycled_at s at ask (place + later)) (cycled_at (cut s place) at (with_point ask point) later) }

@@ -63,8 +63,8 @@ asked_below kept i number below undone =
     subst (λ (n : ℕ). AllByRecursion (λ (j : Item). j.number < n) (items_asked kept)) (sym number)
     (all_joined (λ (j : Item). j.number < kept.next) kept.timeline (items_behind kept.undone) below (behind_below (origin_of kept) kept.timeline kept.next kept.undone undone))
 
--- the item of a record that lies at a place before a gate is entered, and its text is noted where it stands in the record; no text that
--- comes with the base is of its number
+-- The item of a record that lies at a place before a gate is entered, and its text is noted where it stands in the record. No text that
+-- comes with the base is of its number.
 pub entered_notes : (gate : ℕ) (place : Place) (bytes : List ℕ) (from : ℕ) (old new : Held) (i : Item)
     → place.gate + 5 + place.length ≤ gate → place.length ≡ length bytes
     → ((text : List ℕ) → recorded_in old.kept.first i ≡ Some text → (from + length text ≤ length bytes) × (slice_range bytes from (from + length text) ≡ text))

@@ -6,7 +6,7 @@ use Rattle.verb_core.specs.declared.conf.Conf.{Conf}
 use Rattle.verb_core.specs.declared.conf.House.{House}
 use Rattle.desk_journal.specs.declared.fault.MakeFault.{MakeFault}
 use Rattle.desk_journal.specs.declared.fault.MakeFault.TheVariants.{NotEmpty, Disk, NoMemory}
-use Rattle.seal_log.specs.Causes.{Fed}
+use Rattle.seal_log.specs.Causes.{FindsMemory}
 use Rattle.desk_journal.specs.Making.{FindsNone, LooksEmpty, Makes, SameFaults}
 use Rattle.desk_journal.proofs.Payloads.{write_failed_later}
 
@@ -42,10 +42,10 @@ looks_twice old mid new first second = record {
 }
 
 -- no memory was found behind a look that wanted none
-pub finds_none_later : (old mid new : DiskTold) → IsLook old mid → Fed old mid → FindsNone mid new → FindsNone old new
-finds_none_later old mid new look fed (inl (next, same)) = inl (looks_twice old mid new look next, same ∙ fed)
-finds_none_later old mid new look fed (inr ((rose, last), none)) = inr (
-  (subst (λ (n : ℕ). RoseOnce n new.starved) fed rose, last),
+pub finds_none_later : (old mid new : DiskTold) → IsLook old mid → FindsMemory old mid → FindsNone mid new → FindsNone old new
+finds_none_later old mid new look finds_memory (inl (next, same)) = inl (looks_twice old mid new look next, same ∙ finds_memory)
+finds_none_later old mid new look finds_memory (inr ((rose, last), none)) = inr (
+  (subst (λ (n : ℕ). RoseOnce n new.out_of_memory) finds_memory rose, last),
   λ h c now. ⊎_elim (λ was. inl ((look.images h c).0 was)) (λ shut. inr shut) (none (look.honest h) c now),
 )
 
@@ -58,8 +58,8 @@ read_failed_later old mid new (same, reliable) (rose, few, last, may_fail) =
 pub makes_none_later : (house : House) (conf : Conf) (old mid new : DiskTold) (fault : MakeFault) → LooksEmpty old mid (Ok tt)
     → Makes house conf mid new (Err fault) → Makes house conf old new (Err fault)
 makes_none_later house conf old mid new NotEmpty (empty, look, well) (some, next, more) = absurd (some (look.size ∙ empty))
-makes_none_later house conf old mid new Disk (empty, look, (same, fed)) (inl (failed, next), more) =
-    (inl (read_failed_later old mid new same failed, looks_twice old mid new look next), more ∙ fed)
-makes_none_later house conf old mid new Disk (empty, look, (same, fed)) (inr (still, failed), more) = (inr (empty, write_failed_later old mid new same.0.writes same.1 failed), more ∙ fed)
-makes_none_later house conf old mid new NoMemory (empty, look, (same, fed)) (still, more, found) =
-    (empty, (record { reads = more.0.reads ∙ same.0.reads; writes = more.0.writes ∙ same.0.writes }, more.1 ∙ same.1), finds_none_later old mid new look fed found)
+makes_none_later house conf old mid new Disk (empty, look, (same, finds_memory)) (inl (failed, next), more) =
+    (inl (read_failed_later old mid new same failed, looks_twice old mid new look next), more ∙ finds_memory)
+makes_none_later house conf old mid new Disk (empty, look, (same, finds_memory)) (inr (still, failed), more) = (inr (empty, write_failed_later old mid new same.0.writes same.1 failed), more ∙ finds_memory)
+makes_none_later house conf old mid new NoMemory (empty, look, (same, finds_memory)) (still, more, found) =
+    (empty, (record { reads = more.0.reads ∙ same.0.reads; writes = more.0.writes ∙ same.0.writes }, more.1 ∙ same.1), finds_none_later old mid new look finds_memory found)

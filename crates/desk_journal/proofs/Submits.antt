@@ -74,7 +74,7 @@ module _ {D : Type 0} (told : D → DiskTold) where
   pub submit_wants : {X : Type 0} (old new : D) (fault : SealFault) (out : SubmitFault) → IsOutcomeOf fault out → SealWants {T = X} told old new (Err fault) → SubmitWants told old new out
   submit_wants old new log_faults.Disk out is wants = subst (SubmitWants told old new) (sym is) (wants.disk refl)
   submit_wants old new log_faults.NoMemory out is wants =
-      subst (SubmitWants told old new) (sym is) (⊎_elim (λ same. inl same) (λ starved. inr (refl, starved)) (wants.no_memory refl))
+      subst (SubmitWants told old new) (sym is) (⊎_elim (λ same. inl same) (λ out_of_memory. inr (refl, out_of_memory)) (wants.no_memory refl))
   submit_wants old new log_faults.Closed out is wants = absurd is
 
   pub act_wants : {X : Type 0} (old new : D) (fault : SealFault) (out : ActFault) → IsActOutcomeOf fault out → SealWants {T = X} told old new (Err fault) → ActWants told old new out

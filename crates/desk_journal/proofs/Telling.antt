@@ -36,7 +36,6 @@ item_has P q (j ∷ t) i all is =
       | false ↦ λ e. item_has P q t i all.1 e
     ] is
 
--- it passes
 pub item_passes : (q : Item → Bool) (t : List Item) (i : Item) → find q t ≡ Some i → q i ≡ true
 item_passes q [] i is = absurd (cc is)
 item_passes q (j ∷ t) i is =

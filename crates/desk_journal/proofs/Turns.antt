@@ -3,17 +3,17 @@ use Rattle.std.proofs.Common.{◌≡◌, ◌+◌, ℕ, zero, suc, List, true, fa
 use Rattle.undo_outside.specs.Disk.{DiskTold, ReadFailed}
 use Rattle.verb_bytes.specs.declared.journal.JournalRecord.{JournalRecord}
 use Rattle.desk_journal.specs.Lasting.{Lasting}
-use Rattle.desk_journal.specs.Reading.{Counted, HaveRead, Reads, ReadsWell, RoseBy, both_read, failed_once, none_read, wrong_once}
+use Rattle.desk_journal.specs.Reading.{Counted, HaveRead, Reads, ReadsWell, RoseAtLeast, both_read, failed_once, none_read, wrong_once}
 use Rattle.desk_journal.specs.Sealing.{Seals}
 use Rattle.desk_journal.specs.Stored.{HoldsTexts}
 
 -- a count that rose by some and then by more
-rose_add : (m n a b c : ℕ) → RoseBy m a b → RoseBy n b c → RoseBy (m + n) a c
-rose_add zero n a b c e r = subst (λ k. RoseBy k a c) (sym (zero-add n)) (subst (λ x. RoseBy n x c) e r)
-rose_add (suc m) zero a b c r e = subst (λ k. RoseBy k a c) (sym (add-zero (suc m))) (subst (λ x. RoseBy (suc m) a x) (sym e) r)
+rose_add : (m n a b c : ℕ) → RoseAtLeast m a b → RoseAtLeast n b c → RoseAtLeast (m + n) a c
+rose_add zero n a b c e r = subst (λ k. RoseAtLeast k a c) (sym (zero-add n)) (subst (λ x. RoseAtLeast n x c) e r)
+rose_add (suc m) zero a b c r e = subst (λ k. RoseAtLeast k a c) (sym (add-zero (suc m))) (subst (λ x. RoseAtLeast (suc m) a x) (sym e) r)
 rose_add (suc m) (suc n) a b c (r, r') (q, q') =
     let whole : suc m + suc n ≡ suc (m + suc n) = omega arith in
-    subst (λ k. RoseBy k a c) (sym whole) (omega arith, omega arith)
+    subst (λ k. RoseAtLeast k a c) (sym whole) (omega arith, omega arith)
 
 -- a count that stood, or rose by some and then by more
 counted_none : (a b : ℕ) → b ≡ a → Counted 0 a b

@@ -18,8 +18,8 @@ abbrev pub agree : Bool → Bool → Bool
 agree true b = b
 agree false b = not b
 
--- whether an item is such as can be recorded: somebody acts exactly where the deed is a user's own, its users are known,
--- its keys are few, and what was shown has the form of the deed
+-- Whether an item is such as can be recorded. Somebody acts exactly where the deed is a user's own, its users are known, its keys
+-- are few, and what was shown has the form of the deed.
 abbrev pub is_formed : House → Item → Bool
 is_formed house i =
     agree (is_some i.by) (is_own i.deed) && list_all (is_known house) (cons_option i.by (users_in i.deed))

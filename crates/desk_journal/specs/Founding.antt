@@ -1,5 +1,5 @@
--- What a journal opens with: its Format; and in a journal whose past was cut off a Base, the Texts of the messages in it, and the
--- items that were kept, each in a Kept. When each of them can stand, and what they leave.
+-- What a journal opens with: its Format. In a journal whose past was cut off there is a Base too, the Texts of the messages in
+-- it, and the items that were kept, each in a Kept. When each of them can stand, and what they leave.
 use Rattle.std.specs.Prelude.{ℕ, Bool, true, false, not, ◌&&◌, List, [], ◌∷◌, ◌++◌, map, is_none, Option, Some, None, option_and_then, option_map, if◌then◌else◌}
 use Rattle.verb_core.specs.declared.conf.Conf.{Conf}
 use Rattle.verb_core.specs.declared.conf.House.{House}

@@ -7,8 +7,8 @@ use Rattle.seal_log.specs.declared.log.Log.{Log}
 use Rattle.mail_desk.specs.Held.{Held, Room}
 use Rattle.store_kept.specs.Kept.{Kept}
 
--- what is kept, where each text lies, where each snapshot from which a cycle can begin, by the number of items that it holds, and
--- the room that was made; the disk, the place of the journal's last gate, and whether a write or a sync failed
+-- What is kept, where each text lies, and where each snapshot from which a cycle can begin, by the number of items that it holds.
+-- And the room that was made; the disk, the place of the journal's last gate, and whether a write or a sync failed.
 pub record Lasting (D : Type 0) : Type 0 where
   pub kept : Kept
   pub notes : List (Body × Note)

@@ -1,4 +1,4 @@
--- What a mail client goes by that keeps mail by UID, and what holds of all that is ever kept.
+-- What an IMAP client goes by that keeps mail by UID, and what holds of all that is ever kept.
 use Rattle.std.specs.Prelude.{◌≡◌, ℕ, ◌+◌, ◌<◌, ◌==◌, Bool, false, List, [], ◌∷◌, ◌++◌, length, map, find, Option, None, option_map, IsTrue, if◌then◌else◌}
 use Rattle.std.specs.List.{AllByRecursion, list_all}
 use Rattle.std.specs.Option.{option_map_or}
@@ -21,7 +21,7 @@ use Rattle.store_kept.specs.Texts.{text_kept}
 
 -- ---- messages by UID
 
--- a message as a mail client knows it: which one it is, and its text
+-- a message as an IMAP client knows it: which one it is, and its text
 pub record Message : Type 0 where
   pub key : Key
   pub text : Option (List ℕ)
@@ -44,7 +44,7 @@ message_at kept id stamp uid = if has_stamp kept id stamp then option_map (messa
 
 -- ---- what holds of all that is kept
 
--- The base carries it, and the store is what its items leave; they are well formed, with distinct numbers below the next one; its
+-- The base carries it, and the store is what its items leave. They are well formed, with distinct numbers below the next one. Its
 -- stamps name the mailboxes, and are below the next number too; and what the last cycle left to be withdrawn can come back.
 pub record IsSound (kept : Kept) : Type 0 where
   pub house : IsTrue (is_house kept.house)
@@ -68,8 +68,8 @@ RevsBelow kept = RevsUnder kept.next kept.timeline kept.texts
 
 -- ---- what becomes of messages
 
--- of a message that an item of the timeline gives to a user: in the store that is kept it lies in one mailbox under one UID, or
--- one of the later items took it out
+-- Of a message that an item of the timeline gives to a user. In the store that is kept it lies in one mailbox under one UID, or
+-- one of the later items took it out.
 abbrev pub IsAccounted : Kept → List Item → Item → List Item → User → Key → Type 0
 IsAccounted kept before i later u key = length (places_of u key (store_of kept).boxes) + length (takers u key (run kept.base (before ++ i ∷ [])) later) ≡ 1
 

@@ -24,13 +24,13 @@ abbrev pub both_read : Reads → Reads → Reads
 both_read a b = record { failed = a.failed + b.failed; wrong = a.wrong + b.wrong }
 
 -- a count rose by so many at least, or stands at its last value; by none, it is as it was
-abbrev pub RoseBy : ℕ → ℕ → ℕ → Type 0
-RoseBy zero before now = now ≡ before
-RoseBy (suc n) before now = (before ≤ now) × (min (before + suc n) (2 ^ 64 - 1) ≤ now)
+abbrev pub RoseAtLeast : ℕ → ℕ → ℕ → Type 0
+RoseAtLeast zero before now = now ≡ before
+RoseAtLeast (suc n) before now = (before ≤ now) × (min (before + suc n) (2 ^ 64 - 1) ≤ now)
 
 -- a count rose by just so many, or stands at its last value
 abbrev pub Counted : ℕ → ℕ → ℕ → Type 0
-Counted n before now = RoseBy n before now × (now ≤ before + n)
+Counted n before now = RoseAtLeast n before now × (now ≤ before + n)
 
 -- no read failed from old to new
 abbrev pub ReadsWell : {D : Type 0} → (D → DiskTold) → Lasting D → Lasting D → Type 0

@@ -101,8 +101,8 @@ snapshot_record kept = Snapshot (length kept.timeline) (store_of kept).conf (sto
 abbrev pub can_keep : Kept → ℕ → Conf → List (BoxId × Mailbox) → Bool
 can_keep kept items conf rows = (items == length kept.timeline) && makes_store kept.house conf rows
 
--- the record that would be true in the place of one: an item with the step's answer on the store of before, the snapshot of what
--- is kept; and of any other record it is that record
+-- The record that would be true in the place of one. It is an item with the step's answer on the store of before, or the snapshot
+-- of what is kept; and of any other record it is that record.
 abbrev pub true_record : Kept → JournalRecord → JournalRecord
 true_record kept (Verb item) = Verb (answered (store_of kept) item)
 true_record kept (Snapshot items conf rows) = snapshot_record kept
@@ -161,8 +161,8 @@ first_state what = option_and_then settled (first_fore what)
 abbrev pub state : List JournalRecord → Option Kept
 state records = option_and_then (λ kept. after_records kept (behind records)) (opening_state (front records))
 
--- A journal is true where each record behind its front, whose records are taken as given, is true of what is kept before it: each item shows the step's answer,
--- and each snapshot holds the store.
+-- A journal is true where each record behind its front is true of what is kept before it; the front's are taken as given. Each item shows the step's
+-- answer, and each snapshot holds the store.
 abbrev pub are_true : List JournalRecord → Bool
 are_true records = option_map_or (λ kept. all_true kept (behind records)) (opening_state (front records)) true
 

@@ -51,9 +51,9 @@ reads_texts what = is_rewind what
 abbrev pub ReadNoTexts : List JournalRecord → Type 0
 ReadNoTexts records = list_any reads_texts records ≡ false
 
--- The same of records and a desk: each could stand and is true, what is kept is what the sealed ones leave, and the desk is
--- closed from then on where one failed. A cycle or a withdrawal performs items with the texts that are read: what it leaves is told
--- where those are what was stored.
+-- The same of records and a desk. Each could stand and is true, what is kept is what the sealed ones leave, and the desk is closed
+-- from then on where one failed. A cycle or a withdrawal performs items with the texts that are read: what it leaves is told where
+-- those are what was stored.
 pub record Seals {D : Type 0} (told : D → DiskTold) (added failed : List JournalRecord) (old new : Lasting D) : Type 0 where
   pub kept : HoldsTexts told old ⊎ ReadNoTexts added → after_records old.kept added ≡ Some new.kept
   pub house : new.kept.house ≡ old.kept.house

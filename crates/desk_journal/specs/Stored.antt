@@ -95,7 +95,6 @@ TextsStored payloads notes kept = AllNoted kept.first (IsStored payloads) notes 
 abbrev pub store_at : Kept → ℕ → MailStore
 store_at kept count = run kept.base (take count kept.timeline)
 
--- its snapshot
 abbrev pub snapshot_at : Kept → ℕ → JournalRecord
 snapshot_at kept count = Snapshot count (store_at kept count).conf (store_at kept count).boxes
 
@@ -166,8 +165,8 @@ NotesCycle c at ask place old texts timeline new =
 
 -- ---- the disk
 
--- Each image of the disk begins with these payloads, and in them each text that may be asked for lies where it is noted, and each
--- snapshot where it is marked: what is read is what was stored, the store is what the items in force leave, and what can come back
+-- Each image of the disk begins with these payloads. In them each text that may be asked for lies where it is noted, and each
+-- snapshot where it is marked. What is read is what was stored, the store is what the items in force leave, and what can come back
 -- has its texts still. So the disk is honest.
 pub record TextsHeld (disk : DiskTold) (payloads : List (List ℕ)) (kept : Kept) (notes : List (Body × Note)) (snapshots : List (ℕ × Place)) : Type 0 where
   pub held : Holds disk payloads

@@ -1,6 +1,6 @@
 -- What becomes of an ask, of an act, of a snapshot and of an upgrade.
 use Rattle.std.specs.Prelude.{◌≡◌, ◌≢◌, ◌⊎◌, ℕ, ◌+◌, ◌<◌, true, false, List, [], ◌∷◌, length, Result, Ok, Err, OnOk, OnErr, IsErrOf, IsTrue}
-use Rattle.undo_outside.specs.Disk.{DiskTold, WriteStarved}
+use Rattle.undo_outside.specs.Disk.{DiskTold, WriteOutOfMemory}
 use Rattle.verb_core.specs.declared.ask.Refused.{Refused}
 use Rattle.verb_core.specs.declared.ask.SubmitFault.{SubmitFault}
 use Rattle.verb_core.specs.declared.ask.SubmitFault.TheVariants.{Refused as IsRefused, Disk, Closed}
@@ -10,7 +10,7 @@ use Rattle.verb_core.specs.declared.item.Item.{Item}
 use Rattle.verb_bytes.specs.declared.journal.JournalRecord.{JournalRecord}
 use Rattle.verb_bytes.specs.declared.journal.JournalRecord.TheVariants.{Verb, Operator, Upgrade}
 use Rattle.box_store.specs.Refusing.{IsRefusal}
-use Rattle.seal_log.specs.Causes.{Fed, SealWants, Starves}
+use Rattle.seal_log.specs.Causes.{FindsMemory, SealWants, RunsOutOfMemory}
 use Rattle.seal_log.specs.declared.fault.SealFault.{SealFault}
 use Rattle.seal_log.specs.declared.fault.SealFault.TheVariants as log_faults
 use Rattle.desk_journal.specs.declared.fault.ActFault.{ActFault}
@@ -47,7 +47,7 @@ WritesNone (Err (IsRefused why)) old new = why ≢ NoMemory → IsUnwritten old 
 WritesNone (Err Disk) old new = Unit {0}
 WritesNone (Err Closed) old new = Unit {0}
 
--- what a call made of a payload that it was to seal behind a journal: it was sealed; or a write or a sync failed, and the journal
+-- What a call made of a payload that it was to seal behind a journal. It was sealed; or a write or a sync failed, and the journal
 -- is closed; or no memory was found. It reads nothing, and after a write that found no memory it makes none.
 pub record SealsBytes {D X : Type 0} (told : D → DiskTold) (bytes : List ℕ) (old new : JournalTold D) (result : Result X SealFault) : Type 0 where
   pub ok : OnOk result (SealsPayloads (bytes ∷ []) [] (told old.disk) (told new.disk) old.gate new.gate)
@@ -64,18 +64,18 @@ pub record SealsBytes {D X : Type 0} (told : D → DiskTold) (bytes : List ℕ) 
   pub wants : SealWants told old.disk new.disk result
 
 module _ {D : Type 0} (told : D → DiskTold) where
-  -- Which writes found memory where an ask has no item: all, where its sealing failed; none was made, where it is refused; but
-  -- for want of memory the last write that was made may be the one that found none.
+  -- Which writes found memory where an ask has no item. All did, where its sealing failed; none was made, where it is refused.
+  -- But for want of memory the last write that was made may be the one that found none.
   abbrev pub SubmitWants : D → D → SubmitFault → Type 0
-  SubmitWants old new (IsRefused why) = (new ≡ old) ⊎ ((why ≡ NoMemory) × WriteStarved (told old) (told new))
-  SubmitWants old new Disk = Fed (told old) (told new)
+  SubmitWants old new (IsRefused why) = (new ≡ old) ⊎ ((why ≡ NoMemory) × WriteOutOfMemory (told old) (told new))
+  SubmitWants old new Disk = FindsMemory (told old) (told new)
   SubmitWants old new Closed = new ≡ old
 
   -- the same of an act
   abbrev pub ActWants : D → D → ActFault → Type 0
   ActWants old new (act_faults.Numbers next) = new ≡ old
-  ActWants old new act_faults.Disk = Fed (told old) (told new)
-  ActWants old new act_faults.NoMemory = Starves told old new
+  ActWants old new act_faults.Disk = FindsMemory (told old) (told new)
+  ActWants old new act_faults.NoMemory = RunsOutOfMemory told old new
   ActWants old new act_faults.Closed = new ≡ old
 
   -- nothing was sealed, and nothing is lost
@@ -92,8 +92,8 @@ module _ {D : Type 0} (told : D → DiskTold) where
   abbrev pub FailsToSeal : Result Item Refused → Lasting D → Lasting D → Type 0
   FailsToSeal due old new = (item : Item) × (due ≡ Ok item) × Seals told [] (Verb item ∷ []) old new
 
-  -- Why an ask has no item, beside what is due: the refusal that is due, or want of memory; or its record was not sealed; or
-  -- the desk was closed, and stays as it was.
+  -- Why an ask has no item, beside what is due: the refusal that is due, or want of memory. Or its record was not sealed; or the
+  -- desk was closed, and stays as it was.
   abbrev pub SubmitsNone : Result Item Refused → Lasting D → Lasting D → SubmitFault → Type 0
   SubmitsNone due old new (IsRefused why) = (old.closed ≡ false) × IsRefusal why due × SealsNothing old new
   SubmitsNone due old new Disk = (old.closed ≡ false) × FailsToSeal due old new

@@ -7,7 +7,7 @@ ghost use Rattle.verb_core.specs.Items.{IsWellFormed, text_in, users_in};
 ghost use Rattle.verb_core.specs.Store.{is_known};
 ghost use Rattle.verb_bytes.specs.declared.journal.JournalRecord.TheVariants.{Operator};
 ghost use Rattle.verb_bytes.specs.Places.{IsTextAt};
-ghost use Rattle.seal_log.specs.Causes.{Fed};
+ghost use Rattle.seal_log.specs.Causes.{FindsMemory};
 ghost use Rattle.store_kept.specs.Kept.{performed};
 ghost use Rattle.mail_desk.specs.Entering.{CanEnter};
 ghost use Rattle.desk_journal.specs.Lasting.{lasting};
@@ -178,7 +178,7 @@ fn act_numbered<D: Disk>(
     ensures notes { OnErr result (desk.new.notes ≡ desk.old.notes) }
     ensures marks { OnErr result (desk.new.marks ≡ desk.old.marks) }
     ensures reads { (D.told journal.new.disk).failed_reads ≡ (D.told journal.old.disk).failed_reads }
-    ensures fed { OnOk result (Fed (D.told journal.old.disk) (D.told journal.new.disk)) }
+    ensures finds_memory { OnOk result (FindsMemory (D.told journal.old.disk) (D.told journal.new.disk)) }
     ensures wants { IfErr result (λ fault. ActWants D.told journal.old.disk journal.new.disk fault) }
     ensures not_closed { IsErrOf result ActFault.Closed → ⊥ }
 {
@@ -212,7 +212,7 @@ pub fn act_open<D: Disk>(
     ensures notes { OnErr result (desk.new.notes ≡ desk.old.notes) }
     ensures marks { OnErr result (desk.new.marks ≡ desk.old.marks) }
     ensures reads { (D.told journal.new.disk).failed_reads ≡ (D.told journal.old.disk).failed_reads }
-    ensures fed { OnOk result (Fed (D.told journal.old.disk) (D.told journal.new.disk)) }
+    ensures finds_memory { OnOk result (FindsMemory (D.told journal.old.disk) (D.told journal.new.disk)) }
     ensures wants { IfErr result (λ fault. ActWants D.told journal.old.disk journal.new.disk fault) }
     ensures not_closed { IsErrOf result ActFault.Closed → ⊥ }
 {

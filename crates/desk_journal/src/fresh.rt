@@ -148,8 +148,8 @@ fn note_each(shelf: &mut Shelf, bodies: &[Body], place: Place) -> Result<(), NoM
     Ok(())
 }
 
-/// Gives each body that a cycle brings its row of an empty shelf, in the order in which a shelf keeps them: no row is moved then, in
-/// whatever order the texts are noted that are asked for. In time that grows as they are many, times its logarithm.
+/// Gives each body that a cycle brings its row of an empty shelf, in the order in which a shelf keeps them. So no row is moved then,
+/// in whatever order the texts are noted that are asked for. In time that grows as they are many, times its logarithm.
 fn set_out(
     alloc: Global,
     shelf: &mut Shelf,

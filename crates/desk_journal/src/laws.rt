@@ -34,9 +34,9 @@ pub fn crashes_leave_states<D: Disk>()
         → HoldsTexts D.told old ⊎ ReadNoTexts added → Seals D.told added [] old new → state (records ++ added) ≡ Some new.kept }
 {}
 
-/// What is counted of turns that read: a turn in which no read failed counts nothing, one that could not read a text counts once,
-/// and so does one that was given another than was stored, which comes only where the disk does not hold the texts. Of two runs of
-/// turns both are counted.
+/// What is counted of turns that read. A turn in which no read failed counts nothing, and one that could not read a text counts
+/// once. So does one that was given another than was stored, which comes only where the disk does not hold the texts. Of two runs
+/// of turns both are counted.
 pub fn turns_have_read<D: Disk>()
     ensures none { (a b : Lasting D) → ReadsWell D.told a b → HaveRead D.told a b none_read }
     ensures once { (a b : Lasting D) → ReadFailed (D.told a.disk) (D.told b.disk) → HaveRead D.told a b failed_once }
@@ -57,8 +57,8 @@ pub fn records_stay_true<D: Disk>()
         → IsTrue (are_true (records ++ take count (added ++ failed))) }
 {}
 
-/// What a journal opens with, be it a Format alone or with a base, its texts and kept items, leaves what is sound, with each text of a rev
-/// below the next number; nothing of it can come back, and no snapshot was taken.
+/// What a journal opens with leaves what is sound, be it a Format alone or with a base, its texts and kept items. Each text has a rev
+/// below the next number, nothing of it can come back, and no snapshot was taken.
 pub fn fronts_are_sound()
     ensures sound { (records : List JournalRecord) (kept : Kept) → opening_state records ≡ Some kept → IsSound kept }
     ensures revs { (records : List JournalRecord) (kept : Kept) → opening_state records ≡ Some kept → RevsBelow kept }

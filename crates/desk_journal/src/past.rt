@@ -32,7 +32,6 @@ impl<D: Disk> Model for Past<D> {
     ghost invariant = { λ p. p.end < (D.told p.disk).size };
 }
 
-/// Seals a payload.
 fn seal_payload<D: Disk>(
     alloc: Global,
     log: &mut Log,

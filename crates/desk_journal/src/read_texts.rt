@@ -17,13 +17,12 @@ use undo_base::{Copies, NoMemory, Text};
 use undo_outside::Disk;
 use verb_core::{Bodies, BodiesFault, Body};
 
-/// The texts that the items of a desk bring, read in the journal before a gate; and beside them those that a
-/// request for a cycle asks for, whose record is not sealed yet. Once a read failed the disk is left alone.
+/// The texts that the items of a desk bring, read in the journal before a gate. Beside them are those that a request for a cycle
+/// asks for, whose record is not sealed yet. Once a read failed the disk is left alone.
 #[derive(Drop)]
 pub struct Reading<'a, D: Disk> {
     /// What lies before the gate.
     pub past: &'a mut Past<D>,
-    /// The desk.
     pub desk: &'a Desk,
     /// The texts that the request asks for.
     pub replaces: &'a NewTexts<'a>,

@@ -4,7 +4,7 @@ ghost use Rattle.std.specs.List.{list_all, cons_option};
 ghost use Rattle.verb_core.specs.Live.{is_users, live};
 ghost use Rattle.verb_core.specs.Store.{is_known};
 ghost use Rattle.box_store.specs.Refusing.{IsRefusal};
-ghost use Rattle.seal_log.specs.Causes.{Fed};
+ghost use Rattle.seal_log.specs.Causes.{FindsMemory};
 ghost use Rattle.verb_bytes.specs.declared.journal.JournalRecord.TheVariants.{Verb};
 ghost use Rattle.verb_core.specs.Items.{text_in};
 ghost use Rattle.verb_bytes.specs.Places.{IsTextAt};
@@ -123,7 +123,7 @@ fn seal_found<D: Disk>(
     ensures err { IfErr result (λ fault. SubmitsNone D.told (Ok found.ready.item) (lasting desk.old journal.old) (lasting desk.new journal.new) fault) }
     ensures refuses_none { RefusesNone result }
     ensures reads { (D.told journal.new.disk).failed_reads ≡ (D.told journal.old.disk).failed_reads }
-    ensures fed { OnOk result (Fed (D.told journal.old.disk) (D.told journal.new.disk)) }
+    ensures finds_memory { OnOk result (FindsMemory (D.told journal.old.disk) (D.told journal.new.disk)) }
     ensures wants { IfErr result (λ fault. SubmitWants D.told journal.old.disk journal.new.disk fault) }
     ensures not_closed { IsErrOf result SubmitFault.Closed → ⊥ }
 {
@@ -158,7 +158,7 @@ pub fn submit_open<D: Disk>(
         (lasting desk.old journal.old) (lasting desk.new journal.new) fault) }
     ensures writes_none { WritesNone result (lasting desk.old journal.old) (lasting desk.new journal.new) }
     ensures reads { (D.told journal.new.disk).failed_reads ≡ (D.told journal.old.disk).failed_reads }
-    ensures fed { OnOk result (Fed (D.told journal.old.disk) (D.told journal.new.disk)) }
+    ensures finds_memory { OnOk result (FindsMemory (D.told journal.old.disk) (D.told journal.new.disk)) }
     ensures wants { IfErr result (λ fault. SubmitWants D.told journal.old.disk journal.new.disk fault) }
     ensures not_closed { IsErrOf result SubmitFault.Closed → ⊥ }
 {

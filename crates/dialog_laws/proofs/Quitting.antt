@@ -89,8 +89,8 @@ does_sound kept (Err r) item wrong = absurd (let w : ◌≡◌ {A = Result Item 
 service_sound : (at : ℕ) (kept : Kept) → Sound at kept (service at kept)
 service_sound at kept by ask item is = does_sound kept (live (store_of kept) kept.next at by ask kept.deep) item is
 
-starves_sound : (at : ℕ) (kept : Kept) (desk : Service) → Sound at kept (without_items kept desk)
-starves_sound at kept desk by ask item wrong = absurd (let w : ◌≡◌ {A = Result Item SubmitFault} (Err (IsRefused why.NoMemory)) (Ok item) = wrong in cc)
+runs_out_of_memory_sound : (at : ℕ) (kept : Kept) (desk : Service) → Sound at kept (without_items kept desk)
+runs_out_of_memory_sound at kept desk by ask item wrong = absurd (let w : ◌≡◌ {A = Result Item SubmitFault} (Err (IsRefused why.NoMemory)) (Ok item) = wrong in cc)
 
 unwritten_sound : (at : ℕ) (kept : Kept) (desk : Service) → Sound at kept (without_writes kept desk)
 unwritten_sound at kept desk by ask item wrong = absurd (let w : ◌≡◌ {A = Result Item SubmitFault} (Err (IsRefused why.NoMemory)) (Ok item) = wrong in cc)
@@ -113,7 +113,7 @@ holds_under P UnreadRefused at kept told f is none quiet each = each (unread_uns
 holds_under P UnreadUnheard at kept told f is none quiet each = quiet (f (stopped (unread kept (service at kept))))
 holds_under P (Misread texts h) at kept told f is none quiet each = holds_under P h at kept (lost kept) (λ desk. f (misread kept texts desk)) none none quiet (λ desk sound. each (misread kept texts desk) sound)
 holds_under P (Misled said left) at kept told f is none quiet each = each (service at kept) (service_sound at kept)
-holds_under P Unstored at kept told f is none quiet each = each (without_items kept (service at kept)) (starves_sound at kept (service at kept))
+holds_under P Unstored at kept told f is none quiet each = each (without_items kept (service at kept)) (runs_out_of_memory_sound at kept (service at kept))
 holds_under P Unheard at kept told f is none quiet each = none
 holds_under P Unanswered at kept told f is none quiet each = quiet (f (stopped (service at kept)))
 holds_under P Unsealed at kept told f is none quiet each = each (without_seals at kept (service at kept)) (fails_sound at kept (service at kept))

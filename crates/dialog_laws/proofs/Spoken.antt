@@ -15,7 +15,7 @@ use Rattle.imap_stream.specs.declared.next.LineFault.{LineFault}
 use Rattle.imap_stream.specs.declared.next.RawCommand.{RawCommand}
 use Rattle.imap_stream.specs.Commands.{said_of}
 use Rattle.imap_stream.specs.Holding.{octets_in}
-use Rattle.imap_stream.specs.Marks.{tag_of}
+use Rattle.imap_stream.specs.LiteralMarks.{tag_of}
 use Rattle.imap_stream.specs.Streams.{Entry, IsEntry, IsPart, IsReading, Line, Octets, Open, Part, Rest, marked_line, octets_of, told_end, told_entry, told_of, told_open, told_part}
 use Rattle.imap_tokens.specs.Dates.{clock_in, date_in, day_in, is_punctuated, is_real, parts_in, zone_in}
 use Rattle.imap_tokens.specs.Parts.{from_space, is_space, line_before}

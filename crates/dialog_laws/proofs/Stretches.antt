@@ -17,7 +17,7 @@ use Rattle.verb_core.specs.declared.mailbox.BoxId.{BoxId}
 use Rattle.mail_loop.specs.declared.aftermath.Aftermath.TheVariants.{TookAway}
 use Rattle.mail_loop.specs.Afterwards.{both_follow, taking}
 use Rattle.mail_loop.specs.ConsoleTurn.{no_consoles}
-use Rattle.mail_loop.specs.Counts.{both_counted, none_counted}
+use Rattle.mail_loop.specs.TurnCounts.{both_counted, none_counted}
 use Rattle.mail_loop.specs.Hindrance.{Clear, Hindrance, first_hindrance, other_hindrances}
 use Rattle.mail_loop.specs.PopTurn.{pop_session}
 use Rattle.mail_loop.specs.State.{Imap, Pop, Seat, Smtp, State}

@@ -4,7 +4,7 @@ use Rattle.console_head.specs.Request.{Stage}
 use Rattle.mail_loop.specs.State.{Seat, State}
 use Rattle.mail_loop.specs.Afterwards.{both_follow}
 use Rattle.mail_loop.specs.ConsoleTurn.{both}
-use Rattle.mail_loop.specs.Counts.{both_counted}
+use Rattle.mail_loop.specs.TurnCounts.{both_counted}
 use Rattle.mail_loop.specs.Turns.{Heard, hears_seat}
 
 -- what comes of an event, and then of another

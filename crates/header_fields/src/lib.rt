@@ -1,9 +1,9 @@
 //! The header of a message: its lines, its fields, their names and values, and what follows it (RFC 5322, section 2).
 //!
-//! The one home of these rules: FETCH tells sections by them (mail_sections), and SEARCH looks at fields by them (search_verb).
-//! What carries the crate: `header_len`, `field_len`, `is_named` and `value_in` answer what the definitions of specs/ say, and `laws`
-//! says that lines and fields are the text and its header, each byte once and in order, and that the name of a field is a name.
-//! Nothing here takes memory.
+//! The one home of these rules: FETCH tells sections by them (mail_sections), and SEARCH looks at fields by them (search_verb). What
+//! carries the crate: `header_len`, `field_len`, `is_named` and `value_in` answer what the definitions of specs/ say. `laws` says
+//! that lines and fields are the text and its header, each byte once and in order, and that the name of a field is a name. Nothing
+//! here takes memory.
 #![tactic(auto)]
 
 mod fields; // fields: a line, and the lines that go on with it

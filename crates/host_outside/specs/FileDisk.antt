@@ -15,8 +15,8 @@ told_by disk = record {
   failed_reads = disk.failed_reads;
   failed_writes = disk.failed_writes;
   failed_last = disk.failed_last;
-  starved = disk.starved;
-  starved_last = disk.starved_last;
+  out_of_memory = disk.out_of_memory;
+  out_of_memory_last = disk.out_of_memory_last;
   is_reliable = false;
 }
 
@@ -25,5 +25,5 @@ pub record NoneFailed (disk : DiskTold) : Type 0 where
   pub failed_reads : disk.failed_reads ≡ 0
   pub failed_writes : disk.failed_writes ≡ 0
   pub failed_last : disk.failed_last ≡ false
-  pub starved : disk.starved ≡ 0
-  pub starved_last : disk.starved_last ≡ false
+  pub out_of_memory : disk.out_of_memory ≡ 0
+  pub out_of_memory_last : disk.out_of_memory_last ≡ false

@@ -11,7 +11,7 @@ told_by link = record {
   faults = link.faults;
   failed_last = link.failed_last;
   missed = link.missed;
-  starved = link.starved;
-  starved_last = link.starved_last;
+  out_of_memory = link.out_of_memory;
+  out_of_memory_last = link.out_of_memory_last;
   is_reliable = false;
 }

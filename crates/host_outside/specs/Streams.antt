@@ -11,7 +11,7 @@ pub record IsTaken (count : ℕ) (wait left : List ℕ) (old new : Option (List 
   pub taken : Appends old new (take count wait)
   pub rest : left ≡ drop count wait
 
--- A string was sent whole so far: the stream took the front of what waited and of the string behind it, the rest of these waits
+-- A string was sent whole so far. The stream took the front of what waited and of the string behind it, the rest of these waits
 -- now, and the stream did not refuse.
 pub record IsWhole {S : Type 0} (contents : S → Option (List ℕ)) (bytes : List ℕ) (old new : Connection S) : Type 0 where
   pub count : ℕ

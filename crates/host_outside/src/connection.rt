@@ -47,7 +47,7 @@ pub(crate) struct Connection<S> {
     has_moved: bool,
     /// The stream refused the last bytes that it was given, and will not take what waits.
     is_broken: bool,
-    /// A mail reader has logged in.
+    /// An IMAP client has logged in.
     is_known: bool,
     /// How many logins were refused before one was done.
     refused: usize,
@@ -80,7 +80,7 @@ impl<S> Connection<S> {
         matches!(self.role, Role::Http)
     }
 
-    /// Counts the logins that a string to a mail reader refuses. Nobody is told a text before one is done.
+    /// Counts the logins that a string to an IMAP client refuses. Nobody is told a text before one is done.
     fn note_logins(&mut self, bytes: &[u8])
         ensures { self.new ≡ record self.old { is_known = self.new.is_known; refused = self.new.refused } }
     {
@@ -126,8 +126,8 @@ impl<S: Read + Write + OpenStream> Connection<S> {
         self.has_moved
     }
 
-    /// Sends a string, or keeps what is not taken yet. Answers whether it may still arrive whole: then the stream took the
-    /// front of what waited and the string behind it, the rest of these waits now, and the stream did not refuse them.
+    /// Sends a string, or keeps what is not taken yet. Answers whether it may still arrive whole. Then the stream took the front
+    /// of what waited and the string behind it, the rest of these waits now, and the stream did not refuse them.
     pub(crate) fn send(&mut self, bytes: &[u8]) -> Result<bool, NoMemory>
         ensures stays { self.new.ends_at ≡ self.old.ends_at }
         ensures whole { result ≡ Ok true → IsWhole S.contents bytes.now self.old self.new }

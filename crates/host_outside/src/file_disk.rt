@@ -38,8 +38,8 @@ pub struct DiskOver<F: FileCalls> {
     failed_writes: u64,
     failed_last: bool,
     /// How many writes found no room, and whether the last one did.
-    starved: u64,
-    starved_last: bool,
+    out_of_memory: u64,
+    out_of_memory_last: bool,
 }
 
 /// The file at a path.
@@ -98,8 +98,8 @@ impl<F: FileCalls> DiskOver<F> {
             failed_reads: 0,
             failed_writes: 0,
             failed_last: false,
-            starved: 0,
-            starved_last: false,
+            out_of_memory: 0,
+            out_of_memory_last: false,
         }
     }
 
@@ -136,12 +136,12 @@ impl<F: FileCalls> DiskOver<F> {
     }
 
     /// Counts a write that found no room.
-    fn starve(&mut self)
-        ensures counted { RoseOnce self.old.starved self.new.starved }
-        ensures told { self.new ≡ record self.old { starved = self.new.starved; starved_last = true } }
+    fn run_out_of_memory(&mut self)
+        ensures counted { RoseOnce self.old.out_of_memory self.new.out_of_memory }
+        ensures told { self.new ≡ record self.old { out_of_memory = self.new.out_of_memory; out_of_memory_last = true } }
     {
-        self.starved = self.starved.saturating_add(1);
-        self.starved_last = true;
+        self.out_of_memory = self.out_of_memory.saturating_add(1);
+        self.out_of_memory_last = true;
     }
 
     /// Makes the file where it is missing.
@@ -373,16 +373,16 @@ impl<F: FileCalls> Disk for DiskOver<F> {
             Ok(end) => {
                 self.size = self.size.max(end);
                 self.failed_last = false;
-                self.starved_last = false;
+                self.out_of_memory_last = false;
                 Ok(())
             }
             Err(Fault::NoMemory) => {
-                self.starve();
+                self.run_out_of_memory();
                 Err(Fault::NoMemory)
             }
             Err(Fault::Failed) => {
                 self.fail_write();
-                self.starved_last = false;
+                self.out_of_memory_last = false;
                 Err(Fault::Failed)
             }
         }

@@ -1,4 +1,4 @@
-//! What a string to a mail reader says of its logins.
+//! What a string to an IMAP client says of its logins.
 use undo_outside::Role;
 
 /// The end of the answer to a login with a wrong name or password, and the end of that to one that is done, where a role has

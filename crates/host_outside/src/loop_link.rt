@@ -26,8 +26,8 @@ pub struct LoopLink<R: Net> {
     faults: u64,
     failed_last: bool,
     missed: u64,
-    starved: u64,
-    starved_last: bool,
+    out_of_memory: u64,
+    out_of_memory_last: bool,
 }
 
 impl<R: Net + Clock + Eprint> LoopLink<R> {
@@ -51,22 +51,22 @@ impl<R: Net + Clock + Eprint> LoopLink<R> {
             faults: 0,
             failed_last: false,
             missed: 0,
-            starved: 0,
-            starved_last: false,
+            out_of_memory: 0,
+            out_of_memory_last: false,
         }
     }
 
     /// Counts whether a call found no memory.
     fn note_want<T>(&mut self, told: Result<T, NoMemory>) -> Result<T, NoMemory>
         ensures told { result ≡ told }
-        ensures last { self.new.starved_last ≡ is_err told }
-        ensures same { OnOk told (self.new.starved ≡ self.old.starved) }
-        ensures rose { OnErr told (Rose self.old.starved self.new.starved × (self.new.starved ≤ self.old.starved + 1)) }
+        ensures last { self.new.out_of_memory_last ≡ is_err told }
+        ensures same { OnOk told (self.new.out_of_memory ≡ self.old.out_of_memory) }
+        ensures rose { OnErr told (Rose self.old.out_of_memory self.new.out_of_memory × (self.new.out_of_memory ≤ self.old.out_of_memory + 1)) }
         ensures others { (self.new.faults ≡ self.old.faults) × (self.new.failed_last ≡ self.old.failed_last) × (self.new.missed ≡ self.old.missed) }
     {
-        self.starved_last = told.is_err();
+        self.out_of_memory_last = told.is_err();
         if told.is_err() {
-            self.starved = self.starved.saturating_add(1);
+            self.out_of_memory = self.out_of_memory.saturating_add(1);
         }
         told
     }
@@ -144,7 +144,7 @@ impl<R: Net + Clock + Eprint> Link for LoopLink<R> {
             self.sockets.tell_begin(self.made, self.items);
         }
         self.sockets.close(conn);
-        self.starved_last = false;
+        self.out_of_memory_last = false;
         Ok(())
     }
 }

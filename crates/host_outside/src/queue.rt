@@ -73,7 +73,7 @@ impl Queue {
     }
 
     /// A place has just been active: there may be more.
-    pub(crate) fn enliven(&mut self, place: usize) {
+    pub(crate) fn mark_active(&mut self, place: usize) {
         let round = self.round;
         if let Some(mark) = self.marks.get_mut(place) {
             mark.active = round;

@@ -29,8 +29,8 @@ impl Readiness {
         }
     }
 
-    /// From now on it is told of this socket, under this number: at once where something is there, and after a call that found
-    /// nothing more, or no more room, as soon as there is.
+    /// From now on it is told of this socket, under this number: at once where something is there. After a call that found
+    /// nothing more, or no more room, it is told as soon as there is.
     pub(crate) fn add<S: AsRawFd>(&self, socket: &S, number: usize) -> io::Result<()> {
         let descriptor: RawFd = socket.as_raw_fd();
         self.poll.registry().register(

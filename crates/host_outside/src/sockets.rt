@@ -141,7 +141,7 @@ impl<S: Read + Write + OpenStream + Drop> Seat<S> {
 }
 
 /// Whose turn it is in a round.
-enum Turn {
+enum Visit {
     /// That of the listener at a place.
     Listener(usize),
     /// That of the next that was called.
@@ -345,10 +345,10 @@ impl<R: Net + Clock + Eprint> Sockets<R> {
         self.look(now);
         for _ in 0..MOST_VISITS {
             let event = match self.turn() {
-                Turn::Listener(index) => self.visit_listener(index),
-                Turn::Called => self.visit_called(now),
-                Turn::Other => self.visit_other(now),
-                Turn::Over => return None,
+                Visit::Listener(index) => self.visit_listener(index),
+                Visit::Called => self.visit_called(now),
+                Visit::Other => self.visit_other(now),
+                Visit::Over => return None,
             };
             if event.is_some() {
                 return event;
@@ -358,12 +358,12 @@ impl<R: Net + Clock + Eprint> Sockets<R> {
     }
 
     /// In a round come the listeners, then all that were called, and then, where it is time, those that nobody called.
-    fn turn(&self) -> Turn {
+    fn turn(&self) -> Visit {
         match self.listener {
-            index if self.role_at(index).is_some() => Turn::Listener(index),
-            _ if self.queue.is_due() => Turn::Called,
-            _ if self.passed < SEATS => Turn::Other,
-            _ => Turn::Over,
+            index if self.role_at(index).is_some() => Visit::Listener(index),
+            _ if self.queue.is_due() => Visit::Called,
+            _ if self.passed < SEATS => Visit::Other,
+            _ => Visit::Over,
         }
     }
 
@@ -453,7 +453,7 @@ impl<R: Net + Clock + Eprint> Sockets<R> {
             return false;
         };
         seat.connection = Some(connection);
-        self.queue.enliven(place);
+        self.queue.mark_active(place);
         true
     }
 
@@ -542,7 +542,7 @@ impl<R: Net + Clock + Eprint> Sockets<R> {
         ensures { self.new ≡ record self.old { queue = self.new.queue; listener = self.new.listener } }
     {
         if is_active {
-            self.queue.enliven(place);
+            self.queue.mark_active(place);
         }
         if is_left {
             self.listener = 0;

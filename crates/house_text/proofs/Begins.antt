@@ -232,7 +232,6 @@ users_begin : (house : House) (values : List Data) → spec.are_users house.acco
 users_begin house values are =
     rw (some_user house.accounts values are, users_known house.accounts values, (users_in_order (λ a. spec.is_listed values a.1.name) 0 house.accounts).0) refl
 
--- the parts of an alias
 alias_parts : (accounts : List Account) (entry : List ℕ × Data) (alias : Alias) → spec.alias_of accounts entry ≡ Some alias
     → (alias.local ≡ entry.0) × (spec.is_alias accounts alias.local ≡ true)
     × ((values : List Data) × (spec.are_users accounts values ≡ true) × (alias.users ≡ spec.listed_users accounts values))

@@ -81,7 +81,6 @@ fn is_alias(accounts: &[Account], local: &[u8]) -> bool
     is_user_name(local) && !is_named(accounts, local)
 }
 
-/// An alias.
 #[tactic(auto, using(crate::proofs::Named::alias_name))]
 fn alias_of(
     alloc: Global,

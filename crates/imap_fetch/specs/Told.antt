@@ -100,15 +100,15 @@ abbrev pub adds_flags : FetchForm → Message → Bool
 adds_flags form m = is_newly_seen form m && not (list_any is_flags form.attributes)
 
 -- its UID first, what was asked for, and its flags last
-abbrev pub told : FetchForm → Message → List Attribute
-told form m = only_where (adds_uid form) Uid ++ form.attributes ++ only_where (adds_flags form m) FlagsOf
+abbrev pub attributes_told : FetchForm → Message → List Attribute
+attributes_told form m = only_where (adds_uid form) Uid ++ form.attributes ++ only_where (adds_flags form m) FlagsOf
 
 -- its flags after the FETCH
 abbrev pub flags_fetched : FetchForm → Message → Flags
 flags_fetched form m = if form.sets_seen then changed Add (record no_flags { seen = true }) m.entry.flags else m.entry.flags
 
 unfoldable pub fetched_line : FetchForm → Message → List ℕ → List ℕ
-fetched_line form m text = line_of m (flags_fetched form m) text (told form m)
+fetched_line form m text = line_of m (flags_fetched form m) text (attributes_told form m)
 
 -- the text of the message at a place: no bytes where there is none
 abbrev pub text_beside : List (List ℕ) → ℕ → List ℕ

@@ -60,13 +60,13 @@ fn adds_flags(form: &FetchForm, message: &Message) -> bool
 }
 
 /// What is told of a message.
-fn told(
+fn attributes_told(
     alloc: Global,
     form: &FetchForm,
     message: &Message,
     text: &[u8],
 ) -> Result<FetchParts, NoMemory>
-    ensures { IfOk result (λ parts. parts ≡ map (spec.part_of message.now (spec.flags_fetched form.now message.now) text.now) (spec.told form.now message.now)) }
+    ensures { IfOk result (λ parts. parts ≡ map (spec.part_of message.now (spec.flags_fetched form.now message.now) text.now) (spec.attributes_told form.now message.now)) }
 {
     let flags = flags_fetched(form, message);
     let mut parts = FetchParts::new(alloc);
@@ -109,7 +109,7 @@ fn push_fetched(
 ) -> Result<(), NoMemory>
     ensures { OnOk result (out.new ≡ out.old ++ spec.fetched_line form.now message.now text.now) }
 {
-    let parts = told(alloc, form, message, text)?;
+    let parts = attributes_told(alloc, form, message, text)?;
     let line = render_fetch(alloc, message.place, &parts)?;
     out.extend(line.bytes())
 }

@@ -5,7 +5,7 @@ use Rattle.std.specs.Option.{option_or}
 use Rattle.std.proofs.lemmas.Bool.{eqb-true}
 use Rattle.std.proofs.lemmas.List.{append_assoc, length-append, take_at, drop_at, drop-drop}
 use Rattle.std.proofs.lemmas.Option.{same_Some}
-use Rattle.imap_stream.specs.Marks.{is_tag, tag_of, before_space}
+use Rattle.imap_stream.specs.LiteralMarks.{is_tag, tag_of, before_space}
 use Rattle.imap_tokens.specs.Parts.{is_space, from_space}
 use Rattle.imap_tokens.specs.Words.{upper, is_word, row_of}
 use Rattle.imap_lines.specs.Command.{uid_heading_of, heading_of}

@@ -1,7 +1,7 @@
 -- What lines and literals are read as is what the grammar says.
 use Rattle.std.proofs.Common.{◌≡◌, ◌↔◌, ℕ, Bool, true, false, ◌&&◌, List, [], ◌∷◌, Option, None, Some, Ok, Err, refl, ap, sym, ◌∙◌, subst}
 use Rattle.std.specs.List.{after_first}
-use Rattle.imap_stream.specs.Marks.{tag_of}
+use Rattle.imap_stream.specs.LiteralMarks.{tag_of}
 use Rattle.imap_stream.specs.declared.next.RawCommand.{RawCommand}
 use Rattle.imap_tokens.specs.Parts.{is_space, line_before}
 use Rattle.imap_lines.specs.Command.{Reading, heading_of, spoken, if_asked, if_headed, tagged, if_tagged, of_lines, command_in, command_of}

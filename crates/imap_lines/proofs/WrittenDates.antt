@@ -33,7 +33,6 @@ two_are n few =
 below_are : (limit n : ℕ) → n < limit → limit ≤ 100 → two_below limit (48 + n / 10) (48 + n % 10) ≡ Some n
 below_are limit n less most = rw (two_are n (omega arith), (Decides-ltb n limit).1 less) refl
 
--- the bytes of a day
 record DayBytes (day : ℕ) : Type 0 where
   tens : ℕ
   ones : ℕ

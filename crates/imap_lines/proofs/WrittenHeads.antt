@@ -4,7 +4,7 @@ use Rattle.std.specs.Prelude.{option_and_then, Ok}
 use Rattle.std.specs.List.{list_all, before_first, after_first, position_or_len}
 use Rattle.std.proofs.lemmas.Bool.Decides.{Decides-ltb}
 use Rattle.std.proofs.lemmas.List.{append_assoc, length-append, take_at, drop_at}
-use Rattle.imap_stream.specs.Marks.{is_tag, is_atom_byte, is_tag_byte, tag_of, before_space}
+use Rattle.imap_stream.specs.LiteralMarks.{is_tag, is_atom_byte, is_tag_byte, tag_of, before_space}
 use Rattle.imap_tokens.specs.Parts.{is_space, from_space}
 use Rattle.imap_tokens.specs.Words.{is_word}
 use Rattle.imap_lines.specs.Verbs.{verb_in, message_verb}
@@ -84,7 +84,6 @@ before_tag (b ∷ tag) line e =
     let both = and_true (plain_byte b) (list_all plain_byte tag) e in
     rw (not_space b (word_byte b both.0).low, before_tag tag line both.1) refl
 
--- a tag is a word
 pub record TagWord (tag : List ℕ) : Type 0 where
   pub some : 0 < length tag
   pub bytes : list_all plain_byte tag ≡ true

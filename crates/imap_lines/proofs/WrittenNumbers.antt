@@ -12,7 +12,7 @@ use Rattle.std.proofs.lemmas.List.{length-append}
 use Rattle.std.proofs.lemmas.List.Folds.{list_all-append}
 use Rattle.std.proofs.lemmas.Str.Parse.{IsNumeralModel, numerals_by_fold}
 use Rattle.undo_base.specs.Digits.{number_of}
-use Rattle.imap_stream.specs.Marks.{all_digits}
+use Rattle.imap_stream.specs.LiteralMarks.{all_digits}
 use Rattle.imap_stream.specs.declared.picks.SetRange.{SetRange}
 use Rattle.imap_tokens.specs.Words.{is_word, number_in, count_in}
 use Rattle.imap_tokens.specs.Sets.{cut_at, end_in, range_by, range_in, between_commas, ranges_in, set_in}
@@ -197,7 +197,6 @@ some_set range (next ∷ ranges) =
     let all : length (range_text range ++ 44 ∷ set_text (next ∷ ranges)) ≡ length (range_text range) + length (44 ∷ set_text (next ∷ ranges)) = length-append (range_text range) (44 ∷ set_text (next ∷ ranges)) in
     omega arith
 
--- a set is a word
 pub set_is_word : (set : List SetRange) → IsSet set → (0 < length (set_text set)) × (list_all plain_byte (set_text set) ≡ true)
 set_is_word [] is = absurd (let some = is.0 in omega arith)
 set_is_word (range ∷ ranges) is =

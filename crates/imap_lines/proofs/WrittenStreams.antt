@@ -7,7 +7,7 @@ use Rattle.std.proofs.lemmas.Bool.{leb-true}
 use Rattle.std.proofs.lemmas.List.{append_assoc, append-nil}
 use Rattle.std.proofs.lemmas.List.Folds.{list_all-append, list_any-append}
 use Rattle.std.proofs.lemmas.List.Sums.{sum_by-cons}
-use Rattle.imap_stream.specs.Marks.{is_tag, all_digits}
+use Rattle.imap_stream.specs.LiteralMarks.{is_tag, all_digits}
 use Rattle.imap_stream.specs.Commands.{end_of, said_of}
 use Rattle.imap_stream.specs.Streams.{Part, Entry, Line as OpenLine, Rest, marked_line, ended_line, part_bytes, entry_bytes, octets_of as octets_of_parts, HasMark, IsPart, AreParts, told_part, IsReading}
 use Rattle.imap_stream.specs.declared.next.Next.{Next}

@@ -9,7 +9,7 @@ use Rattle.undo_base.specs.declared.asks.StatusAsk.TheVariants.{Messages, Recent
 use Rattle.imap_tokens.specs.Arguments.{behind_space, next_string}
 use Rattle.imap_lines.specs.Arguments.{last_by, last_string, two_strings, first_pattern, string_and_pattern, in_list, string_and_list}
 use Rattle.imap_lines.specs.Asks.{status_in as status_in_word, statuses_from}
-use Rattle.imap_stream.specs.Marks.{is_atom_byte}
+use Rattle.imap_stream.specs.LiteralMarks.{is_atom_byte}
 use Rattle.imap_tokens.specs.Words.{is_atom, is_pattern_byte}
 use Rattle.imap_tokens.specs.Tokens.{is_quoted_byte, string_of, pattern_of}
 use Rattle.imap_lines.specs.What.{bare, with_mailbox, what_in}

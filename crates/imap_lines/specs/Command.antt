@@ -1,7 +1,7 @@
 -- Commands (RFC 3501, 9: command, tag): a tag, a space, a word and its arguments.
 use Rattle.std.specs.Prelude.{◌≡◌, codes, ℕ, Bool, true, false, List, [], ◌∷◌, Option, None, Some, option_map, option_and_then, Result, Ok, Err, if◌then◌else◌}
 use Rattle.std.specs.List.{before_first, after_first}
-use Rattle.imap_stream.specs.Marks.{tag_of}
+use Rattle.imap_stream.specs.LiteralMarks.{tag_of}
 use Rattle.imap_stream.specs.declared.next.RawCommand.{RawCommand}
 use Rattle.imap_tokens.specs.Parts.{is_space, line_before, from_space}
 use Rattle.imap_tokens.specs.Tokens.{tokens_with}

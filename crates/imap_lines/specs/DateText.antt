@@ -4,7 +4,8 @@ use Rattle.civil_dates.specs.Days.{kept, seconds_of}
 use Rattle.civil_dates.specs.Months.{month_of}
 use Rattle.imap_tokens.specs.Dates.{two_below, day_number, year_number, day_of, second_of, sign_in, ahead_of, is_real}
 
--- The letters of a date, and the day, the second of the day and the zone that they name; the moment is kept as the first or the last one where it lies before or after them.
+-- The letters of a date, and the day, the second of the day and the zone that they name. The moment is kept as the first or the last one where it
+-- lies before or after them.
 pub record SpellsDate (moment : ℕ) (bytes : List ℕ) : Type 0 where
   pub d1 : ℕ
   pub d2 : ℕ

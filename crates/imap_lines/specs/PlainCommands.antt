@@ -1,4 +1,5 @@
--- How a plain client writes each command (RFC 3501, 9): an argument that is no atom is a quoted string, or a literal where it has a byte that no quoted string may have.
+-- How a plain client writes each command (RFC 3501, 9). An argument that is no atom is a quoted string, or a literal where it has a byte that no
+-- quoted string may have.
 use Rattle.std.specs.Prelude.{◌≡◌, ℕ, Bool, true, false, ◌<◌, ◌≤◌, ◌⊎◌, List, [], ◌∷◌, ◌++◌, length, map, codes, Option, None, Some, if◌then◌else◌}
 use Rattle.std.specs.Fmt.{decimal}
 use Rattle.std.specs.List.{list_all, AllByRecursion}

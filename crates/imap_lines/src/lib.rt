@@ -1,9 +1,10 @@
-//! The commands of a mail client (RFC 3501, section 6), read from its lines and literals.
+//! The commands of an IMAP client (RFC 3501, section 6), read from its lines and literals.
 //!
-//! `reader` finds the tag and the word, and `what` reads the arguments of each: `arguments` reads those of most commands, `messages`
-//! those of FETCH, STORE, COPY and SEARCH, `append` those of APPEND; `asks` and `fetch` read what is asked for. `command` has the commands, `verbs` their words.
-//! `laws` and `round_trip` say what the definitions mean. The stream is cut by `imap_stream`, and `imap_tokens` reads what stands in arguments.
-//! What carries the crate: `read_command` gives the command or the first refusal that holds, which `one_command` says by the grammar of specs/Grammar.antt.
+//! `reader` finds the tag and the word, and `what` reads the arguments of each. `arguments` reads those of most commands, `messages` those of FETCH,
+//! STORE, COPY and SEARCH, `append` those of APPEND. `asks` and `fetch` read what is asked for. `command` has the commands, `verbs` their words.
+//! `laws` and `round_trip` say what the definitions mean. The stream is cut by `imap_stream`, and `imap_tokens` reads what stands in arguments. What
+//! carries the crate: `read_command` gives the command or the first refusal that holds, which `one_command` says by the grammar of
+//! specs/Grammar.antt.
 #![tactic(auto)]
 
 mod append;

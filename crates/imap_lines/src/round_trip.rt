@@ -1,7 +1,7 @@
 //! What a plain client sends is cut and read as it is meant.
 ghost use Rattle.std.specs.Prelude.{◌≡◌, true, Ok};
 ghost use Rattle.imap_stream.specs.Commands.{said_of};
-ghost use Rattle.imap_stream.specs.Marks.{is_tag};
+ghost use Rattle.imap_stream.specs.LiteralMarks.{is_tag};
 ghost use Rattle.imap_lines.specs.declared.command.ImapCommand.{ImapCommand};
 ghost use Rattle.imap_lines.specs.Command.{command_of};
 ghost use Rattle.imap_lines.specs.Writing.{IsSendable, sent, given_of};

@@ -3,7 +3,7 @@ use Rattle.std.proofs.Common.{◌≡◌, ℕ, ◌+◌, ◌<◌, ◌≤◌, Bool,
 use Rattle.std.proofs.lemmas.List.{append_assoc, append-nil, length-append, take_at}
 use Rattle.std.proofs.lemmas.Bool.Decides.{Decides-ltb, nat_tests}
 use Rattle.imap_stream.specs.Commands.{Heard, end_of, last_byte, heard, saying, before, nothing, closed, told, bad, ended, marked_or_finished, in_line, with_byte, with_literal, tag_of_command, first_line, awaits_after}
-use Rattle.imap_stream.specs.Marks.{tag_of, mark_of}
+use Rattle.imap_stream.specs.LiteralMarks.{tag_of, mark_of}
 use Rattle.imap_stream.specs.Reading.{IsBegun}
 use Rattle.imap_stream.specs.declared.begun.Begun.{Begun}
 use Rattle.imap_stream.specs.declared.begun.Awaits.{Awaits}

@@ -8,7 +8,7 @@ use Rattle.std.specs.Char.{is_ascii_digit}
 use Rattle.std.specs.List.{list_all}
 use Rattle.std.specs.Option.{option_or}
 use Rattle.undo_base.specs.Digits.{number_of}
-use Rattle.imap_stream.specs.Marks.{all_digits, last_brace, size_in, mark_at, mark_of}
+use Rattle.imap_stream.specs.LiteralMarks.{all_digits, last_brace, size_in, mark_at, mark_of}
 use Rattle.imap_stream.specs.Streams.{marked_line}
 use Rattle.imap_stream.specs.declared.marks.Mark.{Mark}
 use Rattle.imap_stream.proofs.Lines.{and_true}

@@ -5,7 +5,7 @@ use Rattle.std.specs.List.{AllByRecursion, flat_map}
 use Rattle.std.proofs.lemmas.Bool.{leb-true, le-leb}
 use Rattle.std.proofs.lemmas.List.{append_assoc, append-nil, length-append, take_at, drop_at}
 use Rattle.std.proofs.lemmas.List.Sums.{sum_by_push, sum_by-cons}
-use Rattle.imap_stream.specs.Marks.{mark_of, mark_at}
+use Rattle.imap_stream.specs.LiteralMarks.{mark_of, mark_at}
 use Rattle.imap_stream.specs.Commands.{end_of}
 use Rattle.imap_stream.specs.Streams.{Part, Entry, Open, Line as OpenLine, Octets, Rest, marked_line, ended_line, part_bytes, entry_bytes, open_bytes, rest_bytes, octets_of, IsLine, Announces, IsPart, AreParts, Ends, IsEntry, IsOpen, IsRest, Splits}
 use Rattle.imap_stream.specs.declared.marks.Mark.{Mark}

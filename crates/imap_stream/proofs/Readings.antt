@@ -12,7 +12,7 @@ use Rattle.imap_stream.specs.declared.next.Next.TheVariants.{Command, Ask, Bad, 
 use Rattle.imap_stream.specs.declared.next.BadLine.{BadLine}
 use Rattle.imap_stream.specs.declared.next.LineFault.TheVariants.{Long, Literal as TooLarge, Many}
 use Rattle.imap_stream.specs.declared.marks.Mark.{Mark}
-use Rattle.imap_stream.specs.Marks.{mark_of}
+use Rattle.imap_stream.specs.LiteralMarks.{mark_of}
 use Rattle.imap_stream.proofs.Within.{ended_within, tag_short, within_end, within_literal}
 use Rattle.imap_stream.proofs.Lines.{EndsHere, ends, end_of-one, end_of-last, last_byte-twice}
 use Rattle.imap_stream.proofs.Hearing.{partly, given_up, heard-append, heard_told, literal_run, literal_taken, line_run, long_run, skip_all, skip_end, line_closes}

@@ -5,7 +5,7 @@ use Rattle.std.proofs.lemmas.Bool.Decides.{Decides-ltb}
 use Rattle.std.proofs.lemmas.Grind.{flat_map-append}
 use Rattle.std.proofs.lemmas.List.{append_assoc, append-nil, length-append, length-take, length-drop, take-append-drop}
 use Rattle.std.proofs.lemmas.List.Sums.{sum_by_push}
-use Rattle.imap_stream.specs.Marks.{mark_of, mark_at}
+use Rattle.imap_stream.specs.LiteralMarks.{mark_of, mark_at}
 use Rattle.imap_stream.specs.Commands.{end_of, said_of}
 use Rattle.imap_stream.specs.Streams.{Part, Entry, Line as OpenLine, Octets, Rest, marked_line, ended_line, part_bytes, entry_bytes, rest_bytes, octets_of, IsLine, Announces, HasMark, IsPart, AreParts, Ends, Splits, IsReading}
 use Rattle.imap_stream.specs.declared.marks.Mark.{Mark}
@@ -129,7 +129,6 @@ split_marked size done line s n h are one_line short long more after = by_large 
     by_large true e = split_end done line s (Some (TooLarge n)) are one_line (short, h, (Decides-ltb 1048576 n).0 e) after
     by_large false e = by_many (nat_lt (length done) 8) refl (ltb-not 1048576 n e)
 
--- a line
 split_line : (size : ℕ) (done : List Part) (line s : List ℕ) → AreParts done → IsLine line → length s < size → Splitting size → Split (flat_map part_bytes done ++ (line ++ 13 ∷ 10 ∷ s))
 split_line size done line s are one_line long more = by_size (nat_lt 65536 (octets_of done + length line)) refl
   where

@@ -3,7 +3,7 @@ use Rattle.std.proofs.Common.{◌≡◌, ℕ, ◌≤◌, true, false, not, ◌==
 use Rattle.std.specs.List.{list_all}
 use Rattle.std.proofs.lemmas.Bool.{and_parts, leb-true, le-leb}
 use Rattle.undo_base.specs.Name.{is_name, is_printable}
-use Rattle.imap_stream.specs.Marks.{is_atom_byte, is_tag, is_tag_byte}
+use Rattle.imap_stream.specs.LiteralMarks.{is_atom_byte, is_tag, is_tag_byte}
 
 -- a byte of a tag prints
 byte_prints : (b : ℕ) → is_tag_byte b ≡ true → is_printable b ≡ true

@@ -3,7 +3,7 @@ use Rattle.std.proofs.Common.{◌≡◌, ℕ, ◌<◌, ◌≤◌, Bool, true, fa
 use Rattle.std.proofs.lemmas.Bool.{leb-true}
 use Rattle.std.proofs.lemmas.List.{length-append}
 use Rattle.std.specs.List.{list_all}
-use Rattle.imap_stream.specs.Marks.{is_tag, is_tag_byte, before_space, tag_of}
+use Rattle.imap_stream.specs.LiteralMarks.{is_tag, is_tag_byte, before_space, tag_of}
 
 none_long : (s t : Bool) → ((not s && false) && t) ≡ false
 none_long true t = refl

@@ -5,7 +5,7 @@ use Rattle.std.proofs.lemmas.Bool.{le-leb, leb-true}
 use Rattle.std.proofs.lemmas.Bool.Decides.{Decides-ltb}
 use Rattle.std.proofs.lemmas.List.{append_assoc, append-nil, length-append, length-map, map-append, take_at}
 use Rattle.std.proofs.lemmas.List.Sums.{sum_by_push, sum_by-cons}
-use Rattle.imap_stream.specs.Marks.{tag_of, mark_of, mark_at}
+use Rattle.imap_stream.specs.LiteralMarks.{tag_of, mark_of, mark_at}
 use Rattle.imap_stream.specs.Commands.{end_of, first_line, nothing, told, closed, bad, ended, with_literal, saying, heard, before, said_of}
 use Rattle.imap_stream.specs.Reading.{IsBegun}
 use Rattle.imap_stream.specs.Streams.{Part, Entry, Open, Line as OpenLine, Octets, Rest, marked_line, ended_line, part_bytes, entry_bytes, open_bytes, rest_bytes, octets_of, IsLine, Announces, HasMark, IsPart, AreParts, Ends, IsEntry, IsOpen, IsRest, Splits, told_part, first_of, told_end, told_entry, told_open, told_of, IsReading}

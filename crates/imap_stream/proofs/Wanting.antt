@@ -10,7 +10,7 @@ use Rattle.imap_stream.specs.declared.next.Next.{Next}
 use Rattle.imap_stream.specs.declared.next.Next.TheVariants.{Bad}
 use Rattle.imap_stream.specs.declared.next.LineFault.TheVariants.{Long, Literal as TooLarge, Many}
 use Rattle.imap_stream.specs.declared.marks.Mark.{Mark}
-use Rattle.imap_stream.specs.Marks.{mark_of}
+use Rattle.imap_stream.specs.LiteralMarks.{mark_of}
 use Rattle.imap_stream.proofs.Lines.{ends}
 use Rattle.imap_stream.proofs.Hearing.{given_up, heard_told, line_closes}
 use Rattle.imap_stream.proofs.Readings.{open_at, open_long, heard_line, end_long_takes, settles_same}

@@ -6,7 +6,7 @@ use Rattle.std.proofs.lemmas.Bool.{leb-false}
 use Rattle.std.proofs.lemmas.Bool.Decides.{Decides-ltb}
 use Rattle.imap_stream.specs.Commands.{Heard, nothing, closed, told, bad, asked, ended, marked_or_finished, with_literal, awaits_after}
 use Rattle.imap_stream.specs.Holding.{octets_in, tag_octets}
-use Rattle.imap_stream.specs.Marks.{is_tag, tag_of, before_space, mark_of}
+use Rattle.imap_stream.specs.LiteralMarks.{is_tag, tag_of, before_space, mark_of}
 use Rattle.imap_stream.specs.Reading.{IsBegun, IsWithin, parts_of}
 use Rattle.imap_stream.specs.declared.begun.Begun.{Begun}
 use Rattle.imap_stream.specs.declared.begun.Awaits.TheVariants.{Line, Literal, End}

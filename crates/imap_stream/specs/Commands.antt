@@ -1,6 +1,6 @@
 -- Commands of a stream (RFC 3501, 2.2.1, 4.3 and 9): lines that end at CRLF, each but the last followed by the literal that it announces.
 use Rattle.std.specs.Prelude.{◌≡◌, ◌≢◌, ◌⊎◌, ℕ, Bool, ◌+◌, ◌==◌, ◌&&◌, List, [], ◌∷◌, ◌++◌, length, take, nat_le, nat_lt, Option, None, Some, option_map, if◌then◌else◌}
-use Rattle.imap_stream.specs.Marks.{tag_of, mark_of}
+use Rattle.imap_stream.specs.LiteralMarks.{tag_of, mark_of}
 use Rattle.imap_stream.specs.declared.marks.Mark.{Mark}
 use Rattle.imap_stream.specs.declared.begun.Begun.{Begun}
 use Rattle.imap_stream.specs.declared.begun.Awaits.{Awaits}

@@ -1,6 +1,6 @@
 pub mod Commands
 pub mod Holding
-pub mod Marks
+pub mod LiteralMarks
 pub mod Reading
 pub mod Sets
 pub mod Spans

@@ -58,7 +58,8 @@ parts_of reader = octets_in reader.begun.lines + octets_in reader.begun.literals
 abbrev pub kept : Reader → List ℕ → ℕ
 kept reader bytes = parts_of reader + length (drop reader.given bytes)
 
--- What contracts see of a buffer: what was heard of the stream; how many bytes were taken out of it and are kept; and how many bytes of the stream itself are in memory, those that were read included.
+-- What contracts see of a buffer: what was heard of the stream, and how many bytes were taken out of it and are kept. And how many bytes of the
+-- stream itself are in memory, those that were read included.
 pub record Buffered : Type 0 where
   pub heard : Heard
   pub parts : ℕ

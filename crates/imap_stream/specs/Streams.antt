@@ -2,7 +2,7 @@
 use Rattle.std.specs.Prelude.{◌≡◌, ℕ, true, ◌+◌, ◌<◌, ◌≤◌, List, [], ◌∷◌, ◌++◌, length, map, sum_by, Option, None, Some}
 use Rattle.std.specs.List.{AllByRecursion, flat_map}
 use Rattle.undo_base.specs.Digits.{number_of}
-use Rattle.imap_stream.specs.Marks.{tag_of, all_digits}
+use Rattle.imap_stream.specs.LiteralMarks.{tag_of, all_digits}
 use Rattle.imap_stream.specs.Commands.{end_of}
 use Rattle.imap_stream.specs.declared.next.Next.{Next}
 use Rattle.imap_stream.specs.declared.next.Next.TheVariants.{Command, Ask, Bad}

@@ -144,7 +144,6 @@ fn whole(alloc: Global, begun: &mut Begun, line: &[u8]) -> Result<Next, NoMemory
     }))
 }
 
-/// Ends a line.
 pub fn end_line(alloc: Global, begun: &mut Begun, line: &[u8]) -> Result<Next, NoMemory>
     requires { begun.old.octets ≤ 65536 }
     ensures ok { IfOk result (λ next. ended begun.old line.now ≡ told next begun.new) }

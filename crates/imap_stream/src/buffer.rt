@@ -13,8 +13,8 @@ use std::marker::Model;
 use undo_base::NoMemory;
 
 /// The bytes of a stream that were not given as commands yet. Those that were read are never more than half of what is in memory. Contracts
-/// see what was heard of the stream, and beside it how many bytes are in memory: those of the lines, the literals and the tag that were taken
-/// out of the stream, and those of the stream itself. Neither it nor its reader has another field that could keep more.
+/// see what was heard of the stream, and beside it how many bytes are in memory. Those are of the lines, the literals and the tag that were
+/// taken out of the stream, and of the stream itself. Neither it nor its reader has another field that could keep more.
 #[derive(Debug, Drop)]
 pub struct Buffer {
     reader: Reader,

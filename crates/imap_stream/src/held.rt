@@ -49,7 +49,8 @@ fn tag_length(begun: &Begun, line: &[u8]) -> usize
     }
 }
 
-/// How many bytes are kept of a line that has not ended, of a command whose lines and literals are kept too: the tag and the last byte alone where it is too long.
+/// How many bytes are kept of a line that has not ended, of a command whose lines and literals are kept too. Where it is too long these are the tag
+/// and the last byte alone.
 fn of_line(begun: &Begun, line: &[u8], came: usize) -> usize
     requires { begun.now.octets ≤ 65536 }
     ensures long { 65537 < begun.now.octets + length line.now → result ≡ tag_octets (tag_of_command begun.now line.now) + 1 }

@@ -3,7 +3,7 @@ ghost use Rattle.std.specs.Prelude.{◌≡◌, ◌≤◌, ◌<◌, true, length,
 ghost use Rattle.std.specs.List.{list_all};
 ghost use Rattle.undo_base.specs.Digits.{number_of};
 ghost use Rattle.undo_base.specs.Name.{is_name};
-ghost use Rattle.imap_stream.specs.Marks.{is_atom_byte, is_tag_byte, is_tag, before_space, tag_of, all_digits, last_brace, size_in, mark_of};
+ghost use Rattle.imap_stream.specs.LiteralMarks.{is_atom_byte, is_tag_byte, is_tag, before_space, tag_of, all_digits, last_brace, size_in, mark_of};
 
 use undo_base::are_digits;
 

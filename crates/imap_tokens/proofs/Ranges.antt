@@ -52,7 +52,6 @@ cut_is c (b ∷ bytes) parts e = by_test (b == c) refl (cut_is c bytes)
         let m = mapped (cut_at c bytes) (λ (p : List ℕ × List ℕ). (b ∷ p.0, p.1)) parts rest in
         ap (λ l. b ∷ l) (more m.value m.was) ∙ ap (λ p. p.0 ++ c ∷ p.1) m.is
 
--- a number is digits
 number_digits : (bytes : List ℕ) (n : ℕ) → number_in bytes ≡ Some n → list_all is_ascii_digit bytes ≡ true
 number_digits bytes n e = by_test (is_decimal bytes) refl
   where

@@ -98,7 +98,6 @@ any_text text = Some text
 abbrev pub no_text : List ℕ → Option (List ℕ)
 no_text text = None
 
--- a word
 abbrev pub word_of : Token → Option (List ℕ)
 word_of token = text_by any_text no_text no_text token
 

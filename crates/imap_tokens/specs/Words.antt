@@ -3,7 +3,7 @@ use Rattle.std.specs.Prelude.{ℕ, Bool, true, false, not, ◌-◌, ◌==◌, �
 use Rattle.std.specs.List.{list_all}
 use Rattle.std.specs.Char.{is_ascii_digit}
 use Rattle.undo_base.specs.Digits.{number_of, number_between}
-use Rattle.imap_stream.specs.Marks.{is_atom_byte}
+use Rattle.imap_stream.specs.LiteralMarks.{is_atom_byte}
 
 -- a letter as a capital
 abbrev pub upper : ℕ → ℕ

@@ -6,7 +6,6 @@ use crate::tokens::{Token, is_close_token, is_space_token, word_in};
 use crate::words::{is_same_word, is_whole_atom};
 use undo_base::Flags;
 
-/// No flag.
 pub fn no_flag() -> Flags
     ensures { result ≡ no_flags }
 {

@@ -1,4 +1,4 @@
-//! What stands in the arguments of a mail client's commands (RFC 3501, section 9).
+//! What stands in the arguments of an IMAP client's commands (RFC 3501, section 9).
 //!
 //! `parts` has the parts of lines, `words` their words, atoms and numbers, `tokens` the tokens that lines and literals make.
 //! `arguments` takes them one by one; `sets`, `flags` and `dates` read what stands in one; `laws` says what tokens, sets and flags are in the standard's words.

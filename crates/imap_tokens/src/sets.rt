@@ -74,7 +74,6 @@ fn push_range(set: &mut SetText, bytes: &[u8]) -> Result<bool, NoMemory>
     }
 }
 
-/// A set.
 pub fn read_set(alloc: Global, bytes: &[u8]) -> Result<Option<SetText>, NoMemory>
     ensures { IfOk result (λ set. set ≡ set_in bytes.now) }
 {

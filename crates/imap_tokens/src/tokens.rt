@@ -272,7 +272,6 @@ pub fn literal_in(token: &Token) -> Option<&[u8]>
     }
 }
 
-/// Adds a literal.
 fn add_literal(alloc: Global, tokens: &mut Tokens, literal: &Text) -> Result<(), NoMemory>
     ensures { OnOk result (tokens.new ≡ tokens.old ++ Token.Literal literal.now ∷ []) }
 {

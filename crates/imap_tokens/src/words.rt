@@ -3,7 +3,7 @@ ghost use Rattle.std.specs.Prelude.{◌≡◌, true, min, option_map};
 ghost use Rattle.std.specs.Char.{is_ascii_digit};
 ghost use Rattle.std.specs.List.{list_all};
 ghost use Rattle.undo_base.specs.Digits.{number_of};
-ghost use Rattle.imap_stream.specs.Marks.{is_atom_byte};
+ghost use Rattle.imap_stream.specs.LiteralMarks.{is_atom_byte};
 ghost use Rattle.imap_tokens.specs.Words.{upper, is_word, after_word, is_atom, is_pattern_byte, number_in, count_in};
 
 use imap_stream::is_atom_char;

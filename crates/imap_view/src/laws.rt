@@ -9,9 +9,9 @@ ghost use Rattle.imap_view.specs.Views.{has_more, is_by_uid, is_in_order, lost_i
 ghost use Rattle.imap_view.specs.Named.{keys_at, rows_at};
 ghost use Rattle.imap_view.specs.Following.{comes_behind, expunge_line, keeps_uids, new_in, told_numbers, without_numbers};
 
-/// A client can follow a view by what it is told, where all that is new came behind what the view knows: the lines are those
-/// of these numbers; the messages with these numbers gone, one by one, and the new ones behind them, are the new view, whose
-/// length EXISTS tells; and where no EXISTS is told, what is left is the new view.
+/// A client can follow a view by what it is told, where all that is new came behind what the view knows. The lines are those of
+/// these numbers. The messages with these numbers gone, one by one, and the new ones behind them, are the new view, whose length
+/// EXISTS tells. Where no EXISTS is told, what is left is the new view.
 pub fn a_client_follows()
     ensures lines { (ns : List ℕ) → expunge_lines ns ≡ flat_map expunge_line (told_numbers 0 ns) }
     ensures front { (entries : List TheEntry) → (view : List TheKnown) → is_by_uid entries ≡ true → is_in_order view ≡ true → comes_behind entries view ≡ true
@@ -21,8 +21,8 @@ pub fn a_client_follows()
     ensures length { (entries : List TheEntry) → length (view_of entries) ≡ length entries }
 {}
 
-/// A view finds its messages by UID and key, and the store by key alone: where no message has another UID in the mailbox than in
-/// the view, fewer are found than are named exactly where the store lacks one, so that a FETCH that reads no texts is refused.
+/// A view finds its messages by UID and key, and the store by key alone. Where no message has another UID in the mailbox than in
+/// the view, fewer are found than are named exactly where the store lacks one. So a FETCH that reads no texts is refused.
 pub fn missing_is_gone()
     ensures { (sizes : TheBody → Option ℕ) → (entries : List TheEntry) → (view : List TheKnown) → (places : List ℕ) → keeps_uids entries view ≡ true
         → nat_lt (length (rows_at sizes entries view places)) (length (keys_at view places)) ≡ lacks entries (keys_at view places) }

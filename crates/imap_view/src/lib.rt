@@ -1,9 +1,8 @@
 //! What an IMAP session knows of its mailbox, and what the store tells of it.
 //!
-//! `messages` is the view, the messages that a session knows, and how it is told of changes; `facts` has what the store
-//! tells of a mailbox, `named` the messages that a command names, `picks` finds those that it names by UID, and `names` the mailboxes and accounts; `laws` says
-//! that a client can follow a view. What carries
-//! the crate: each call is the function of its name in specs/Views.antt, specs/Facts.antt, specs/Named.antt or
+//! `messages` is the view, the messages that a session knows, and how it is told of changes. `facts` has what the store tells of a mailbox. `named`
+//! has the messages that a command names, `picks` finds those that it names by UID, and `names` the mailboxes and accounts. `laws` says that a client
+//! can follow a view. What carries the crate: each call is the function of its name in specs/Views.antt, specs/Facts.antt, specs/Named.antt or
 //! specs/Names.antt.
 #![tactic(auto)]
 

@@ -85,11 +85,9 @@ module _ (s : Kept) (at : ℕ) (repair : Repair) (now : List Shown) where
       → all ≡ shown_after (front_in repair) items shows ++ more → all ≡ timeline_by s at repair items now
   timeline_is items more all shows nows tells are = are ∙ ap₂ (λ (a b : List Item). a ++ b) (ap (shown_after (front_in repair) items) nows) tells
 
-  -- the stamps
   stamps_are : (after last : MailStore) (stamps : List (BoxId × ℕ)) → last ≡ after → stamps ≡ renewed (store_of s).boxes last.boxes s.stamps s.next → stamps ≡ stamps_by s after
   stamps_are after last stamps same is = is ∙ ap (λ (m : MailStore). renewed (store_of s).boxes m.boxes s.stamps s.next) same
 
-  -- the report
   report_is : (after : MailStore) (count : ℕ) (unmatched : List ℕ) (broken : List BrokenItem) (numbers : List ℕ) (more : List Item) (stamps : List (BoxId × ℕ))
       → count ≡ repair.kept → unmatched ≡ repair.unmatched → broken ≡ broken_by repair now
       → more ≡ told_by s at repair now → numbers ≡ numbers_of more → stamps ≡ stamps_by s after

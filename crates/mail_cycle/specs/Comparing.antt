@@ -1,6 +1,6 @@
--- A repair as it is worked out: by what came of performing the repaired items, from a store to which the first of them led, and
--- over items as they were read, of which texts of deliveries may be others. Over the repaired items themselves, from the base on,
--- it is the repair.
+-- A repair as it is worked out, by what came of performing the repaired items, from a store to which the first of them led. The
+-- items are as they were read, so texts of deliveries may be others. Over the repaired items themselves, from the base on, it is
+-- the repair.
 use Rattle.std.specs.Prelude.{ℕ, ◌+◌, ◌-◌, List, ◌++◌, drop, length}
 use Rattle.verb_core.specs.declared.item.Item.{Item}
 use Rattle.verb_core.specs.declared.item.Shown.{Shown}

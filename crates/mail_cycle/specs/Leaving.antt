@@ -46,8 +46,8 @@ pub record IsMadeFrom (s : Kept) (at : ℕ) (repair : Repair) (first : MailStore
   pub from : made.from ≡ count
   pub leaves : LeavesAt s.timeline (reached_from s at repair first count heard) (reworked_from s at repair first count heard) made
 
--- The same from some beginning at or before the place: a valid store of the house, and the one to which the first so many items led,
--- where what is read is what was stored.
+-- The same from some beginning at or before the place. That is a valid store of the house, and the one to which the first so many
+-- items led, where what is read is what was stored.
 pub record IsMade (s : Kept) (at : ℕ) (repair : Repair) (honest : Type 0) (made : Rewound) : Type 0 where
   pub place : repair.place ≤ length s.timeline
   pub first : MailStore
@@ -58,8 +58,8 @@ pub record IsMade (s : Kept) (at : ℕ) (repair : Repair) (honest : Type 0) (mad
   pub led : honest → first ≡ run s.base (take count s.timeline)
   pub made_from : IsMadeFrom s at repair first count honest made
 
--- what is left can be gone on with: the items are a timeline with numbers below the next one, the stamps name the mailboxes and
--- are below it too, it has risen and is one that an item can have, and the items stand on what the store began with, if that carries those before
+-- What is left can be gone on with. The items are a timeline with numbers below the next one; the stamps name the mailboxes and are below it too.
+-- It has risen and is one that an item can have. And the items stand on what the store began with, if that carries those before.
 pub record GoesOnAt (s : Kept) (after : MailStore) (due : Cycled) : Type 0 where
   pub timeline : IsTimeline s.house due.timeline
   pub below : AllByRecursion (λ (i : Item). i.number < due.next) due.timeline

@@ -1,4 +1,4 @@
--- What a mail client may rely on that keeps mail by UID (RFC 3501, section 2.3.1.1): what lasts from one moment of a store to a
+-- What an IMAP client may rely on that keeps mail by UID (RFC 3501, section 2.3.1.1): what lasts from one moment of a store to a
 -- later one.
 use Rattle.std.specs.Prelude.{◌≡◌, ℕ, ◌<◌, ◌≤◌, true, List, Some}
 use Rattle.verb_core.specs.declared.mailbox.Body.{Body}

@@ -89,8 +89,8 @@ pub record Begins (t : Task) (first : Beginning) : Type 0 where
   pub house : first.store.store.house ≡ t.kept.house
   pub few : first.count ≤ t.repair.place
 
--- what it leaves can be gone on with, if what is kept could be: the items are a timeline, with numbers up to those of the acts, which
--- are new to what the store began with
+-- What it leaves can be gone on with, if what is kept could be. The items are a timeline, with numbers up to those of the acts, which
+-- are new to what the store began with.
 pub record GoesWith (s : Kept) (repair : Repair) : Type 0 where
   pub timeline : IsTimeline s.house repair.items
   pub low : AllByRecursion (λ (i : Item). i.number ≤ s.next + repair.acts) repair.items

@@ -71,8 +71,8 @@ fn with_front(front: StoredItems, later: Replayed) -> Result<Replayed, NoMemory>
     }
 }
 
-/// A repair at its place: the items behind its beginning and through the place, as they were performed, the store that they lead to,
-/// the repaired ones behind the place, and what is told of the repair.
+/// A repair at its place: the items behind its beginning and through the place, as they were performed, and the store that they lead
+/// to. And the repaired ones behind the place, and what is told of the repair.
 #[derive(Drop)]
 pub(crate) struct AtPoint {
     pub(crate) items: StoredItems,
@@ -184,8 +184,8 @@ fn settled<L: Ledger>(
     }
 }
 
-/// A repair from a beginning at or before its place: the repaired items behind the beginning are performed on its store, once each,
-/// those through the place one after the other, those behind it level by level on workers, the notices last. Each of their
+/// A repair from a beginning at or before its place. The repaired items behind the beginning are performed on its store, once each.
+/// Those through the place come one after the other, those behind it level by level on workers, the notices last. Each of their
 /// deliveries' texts is read, once, and no other text. The items before the beginning stay where they are, and are not copied. In
 /// time that grows as the items behind it, the mailboxes and these texts.
 pub fn rework_by_levels<R: Threads + Sync, G: Gate, B: Bodies, L: Ledger>(

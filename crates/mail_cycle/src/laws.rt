@@ -29,9 +29,9 @@ ghost use Rattle.store_kept.specs.Bases.{HasBase};
 ghost use Rattle.store_kept.specs.Coming.{Comes, HasUndone, HasUndoneTexts};
 ghost use Rattle.store_kept.specs.Kept.{Kept, Marks, origin_of, performed, store_of, upgraded};
 
-/// What a cycle leaves can be gone on with: the items are well formed, their numbers distinct and below the next one, the
-/// stamps name the mailboxes and are below the next number, and it has risen and is one that an item can have. So it is with
-/// whatever texts of deliveries were read, and from whatever store it began at or before the point.
+/// What a cycle leaves can be gone on with. The items are well formed, their numbers distinct and below the next one; the stamps
+/// name the mailboxes and are below the next number. That has risen and is one that an item can have. So it is with whatever
+/// texts of deliveries were read, and from whatever store it began at or before the point.
 pub fn cycles_leave_states()
     ensures formed { (s : Kept) (at : ℕ) (ask : CycleAsk) (place : ℕ) → AllByRecursion (IsWellFormed s.house) s.timeline →
         IsTrue (are_known s.house ask.inserts) → AllByRecursion (IsWellFormed s.house) (timeline_at s at ask place) }
@@ -53,8 +53,8 @@ pub fn cycles_leave_states()
         AllByRecursion (λ (i : Item). i.number < s.next) s.timeline → IsTrue (are_known s.house ask.inserts) → GoesWith s (repair_of s at ask place) }
 {}
 
-/// So can what any repair leaves whose items are a timeline and whose numbers are left, with whatever texts of deliveries were read,
-/// and from whatever store it began at or before its place.
+/// So can what any repair leaves whose items are a timeline and whose numbers are left. That is so with whatever texts of deliveries
+/// were read, and from whatever store it began at or before its place.
 pub fn repairs_leave_states()
     ensures from { (s : Kept) (at : ℕ) (repair : Repair) (first : MailStore) (count : ℕ) (heard : List Item) → GoesWith s repair →
         AllByRecursion (λ (r : BoxId × ℕ). r.1 < s.next) s.stamps → count ≤ repair.place → AllHeard repair.items heard → leaves_numbers_for s repair.acts ≡ true →
@@ -80,7 +80,7 @@ pub fn withdrawals_leave_states()
         (due : Cycled) → AllByRecursion (λ (i : Item). i.rev < s.next) s.timeline → due_anew s at ask ≡ Rewinds due → HasUndoneTexts (after_cycle s ask due) }
 {}
 
-/// From a beginning at or before its place: the items through it are as they were, and where its store is the one to which they
+/// From a beginning at or before its place. The items through it are as they were, and where its store is the one to which they
 /// led, all is as from the first item on.
 pub fn repairs_begin_anywhere()
     ensures front { (s : Kept) (at : ℕ) (repair : Repair) (first : MailStore) (count : ℕ) (heard : List Item) → count ≤ repair.place → repair.place ≤ length s.timeline →
@@ -101,10 +101,10 @@ pub fn timelines_have_their_length()
     ensures notices { (s : Kept) (at : ℕ) (ask : CycleAsk) (place : ℕ) → length (report_at s at ask place).notices ≤ length s.house.accounts }
 {}
 
-/// Each later item is judged by its own answer, at its own place of the new timeline: it is told of exactly where it is dropped
-/// and a user's, or stays and what it showed no longer holds there; and nothing but later items is told of. The one that stays
-/// shows its own answer afterwards exactly where what it showed no longer holds. The whole list is what is told of the later items
-/// so, each once, in the order of the timeline before.
+/// Each later item is judged by its own answer, at its own place of the new timeline. It is told of exactly where it is dropped
+/// and a user's, or stays and what it showed no longer holds there. Nothing but later items is told of. The one that stays shows
+/// its own answer afterwards exactly where what it showed no longer holds. The whole list is what is told of the later items so,
+/// each once, in the order of the timeline before.
 pub fn later_items_are_judged_alone()
     ensures told { (s : Kept) (at : ℕ) (ask : CycleAsk) (place : ℕ) (earlier : List Item) (i : Item) (later : List Item) → place ≤ length s.timeline →
         NumbersApart (drop place s.timeline) → drop place s.timeline ≡ earlier ++ i ∷ later →
@@ -122,7 +122,7 @@ pub fn items_through_the_point_stay()
     ensures { (s : Kept) (at : ℕ) (ask : CycleAsk) (place : ℕ) → place ≤ length s.timeline → take place (timeline_at s at ask place) ≡ take place s.timeline }
 {}
 
-/// A body that has a text in the new timeline had it before the cycle, unless it is a replacement of the cycle, or an act or a
+/// A body that has a text in the new timeline had it before the cycle. Else it is a replacement of the cycle, or an act or a
 /// notice of the cycle brought it. So it goes back over any number of cycles.
 pub fn bodies_keep_their_texts()
     ensures { (s : Kept) (at : ℕ) (ask : CycleAsk) (place : ℕ) (body : Body) (text : List ℕ) → NumbersApart s.timeline → body.origin ≤ s.next → body.rev ≢ s.next →
@@ -141,9 +141,9 @@ pub fn answers_that_are_shown_hold()
         drop place (answers s.base s.timeline) ≡ map (λ (i : Item). i.shown) (drop place s.timeline) → broken_at s at ask place ≡ [] }
 {}
 
-/// What a client that keeps mail by UID knows lasts: over no step at all, over two that follow one another, over each item
-/// with the next number, over each cycle and each withdrawal, over an upgrade, and whatever is known of snapshots (RFC 3501, section
-/// 2.3.1.1).
+/// What a client that keeps mail by UID knows lasts (RFC 3501, section 2.3.1.1). It does over no step at all, over two that follow
+/// one another, and over each item with the next number. So it does over each cycle and each withdrawal, over an upgrade, and
+/// whatever is known of snapshots.
 pub fn uids_last()
     ensures itself { (s : Kept) → UidsLast s s }
     ensures followed { (a b c : Kept) → UidsLast a b → UidsLast b c → UidsLast a c }

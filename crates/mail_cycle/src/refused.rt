@@ -1,7 +1,7 @@
 //! Why there is no cycle.
 use undo_base::NoMemory;
 
-/// Why there is no cycle: `Point` has the point that the timeline does not have, `Numbers` the next number, where too few are
+/// Why there is no cycle. `Point` has the point that the timeline does not have, `Numbers` the next number, where too few are
 /// left for the cycle, its acts and a notice to each user. At `Disk` a text could not be read.
 #[derive(Clone, Copy, Debug, PartialEq, Eq)]
 pub enum CycleRefused {

@@ -55,9 +55,9 @@ fn run_levels<R: Threads + Sync, G: Gate, L: Ledger>(
     run_plan(rt, alloc, store, &levels, items, gate, steps)
 }
 
-/// The store that items lead to from the given one, and what each of them shows there: level by level, where the items of a
-/// level are worked out by workers on the one store before it, and each passes the gate before that. Each of them is performed
-/// once, and each delivery's text is read, once, before the first level.
+/// The store that items lead to from the given one, and what each of them shows there, level by level. The items of a level are
+/// worked out by workers on the one store before it, and each passes the gate before that. Each of them is performed once, and
+/// each delivery's text is read, once, before the first level.
 pub(crate) fn replay_by_levels<R: Threads + Sync, G: Gate, B: Bodies, L: Ledger>(
     rt: &R,
     alloc: Global,

@@ -1,5 +1,5 @@
-//! Items, performed one after the other, each delivery with its text, which is read: those through a point for the store that
-//! they lead to, and, where there are no workers, those behind it for what they show too.
+//! Items, performed one after the other, each delivery with its text, which is read. Those through a point are performed for the
+//! store that they lead to; where there are no workers, those behind it for what they show too.
 ghost use Rattle.std.specs.Prelude.{◌≡◌, ◌≤◌, ◌+◌, ◌-◌, ◌==◌, if◌then◌else◌, [], ◌∷◌, ◌++◌, drop, length, IfErr, IfOk, OnErr, OnOk};
 ghost use Rattle.std.specs.List.{AllByRecursion};
 ghost use Rattle.verb_core.specs.Items.{IsWellFormed};

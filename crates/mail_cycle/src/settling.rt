@@ -26,8 +26,8 @@ use verb_core::laws::steps_keep_validity;
 use verb_core::{Item, Items, Shown, Stamps};
 
 /// What a repair leaves: the store, the place behind which all is performed anew, how many of the first items stay as they are and
-/// the items in force behind them, how many stand before its notices, the stamp of each mailbox, the next number, how many items
-/// entered, acts and notices, and the report.
+/// the items in force behind them. And how many stand before its notices, the stamp of each mailbox, the next number, how many
+/// items entered, acts and notices, and the report.
 #[derive(Drop)]
 pub struct Rewound {
     pub store: Store,
@@ -145,18 +145,18 @@ fn performed<L: Ledger>(
 
 /// The stamps afterwards, and the mailboxes to which the repair gave one.
 #[derive(Drop)]
-struct Marks {
+struct NewStamps {
     stamps: Stamps,
     renewed: Renewals,
 }
 
-fn marks_of(alloc: Global, before: &Before<'_>, after: &Store) -> Result<Marks, NoMemory>
+fn marks_of(alloc: Global, before: &Before<'_>, after: &Store) -> Result<NewStamps, NoMemory>
     ensures stamps { IfOk result (λ marks. marks.stamps ≡ renewed_stamps (store_of before.now).boxes after.now.store.boxes before.now.stamps before.now.next) }
     ensures renewed { IfOk result (λ marks. marks.renewed ≡ renewed_in before.now.next marks.stamps) }
 {
     let stamps = before.renewed(alloc, after)?;
     match renewed_by(alloc, before.next(), stamps.as_slice()) {
-        Ok(renewed) => Ok(Marks { stamps, renewed }),
+        Ok(renewed) => Ok(NewStamps { stamps, renewed }),
         Err(NoMemory) => Err(NoMemory),
     }
 }
@@ -168,8 +168,8 @@ struct Led {
     items: StoredItems,
 }
 
-/// Performs the notices, and puts them behind the items, which show what they show now where what they showed no longer holds:
-/// all but the front, of which the last ones are the acts that come in.
+/// Performs the notices, and puts them behind the items, which show what they show now where what they showed no longer holds.
+/// That is all but the front, of which the last ones are the acts that come in.
 fn lead<L: Ledger>(
     alloc: Global,
     front: usize,
@@ -199,8 +199,8 @@ fn lead<L: Ledger>(
     }
 }
 
-/// What is told of a repair, but for the stamps, with its place, how many of the first items stay, how many stand before the notices,
-/// the next number, and how many items entered.
+/// What is told of a repair, but for the stamps, with its place and how many of the first items stay. And how many stand before the
+/// notices, the next number, and how many items entered.
 #[derive(Drop)]
 struct Found {
     place: u32,
@@ -340,7 +340,7 @@ fn close<L: Ledger>(
 }
 
 /// What a repair leaves, from the repaired items behind a beginning as they were read, the store that they lead to and the answers
-/// that those behind the place gave: the broken and the withdrawn items, what the broken ones show, the notices, which are
+/// that those behind the place gave. That is the broken and the withdrawn items, what the broken ones show, the notices, which are
 /// performed, the stamps and the report. The items before the beginning stay as they are. In time that grows as the items behind
 /// the beginning, those of the timeline behind the place, and the mailboxes.
 pub(crate) fn settle<L: Ledger>(

@@ -93,7 +93,6 @@ alone false (Some text) = refl
 pub text_single : (i : Item) (body : Body) → text_of (i ∷ []) body ≡ cond (same_body (body_of i) body) (text_in i.deed) None
 text_single i body = through (λ (k : Item). text_in k.deed) (brings body i) i None ∙ alone (same_body (body_of i) body) (text_in i.deed)
 
--- a text stays
 pub text_stays : (t : List Item) (i : Item) (body : Body) → has_text t body ≡ true → has_text (t ++ i ∷ []) body ≡ true
 text_stays t i body has = ap is_some (text_more t i body ∙ ap (λ b. cond b (text_of t body) (text_of (i ∷ []) body)) has) ∙ has
 
@@ -253,7 +252,6 @@ pub all_first : {X : Type 0} (P : X → Type 0) (xs ys : List X) → AllByRecurs
 all_first P [] ys all = tt
 all_first P (x ∷ xs) ys all = (all.0, all_first P xs ys all.1)
 
--- and of the last
 pub all_last : {X : Type 0} (P : X → Type 0) (xs ys : List X) → AllByRecursion P (xs ++ ys) → AllByRecursion P ys
 all_last P [] ys all = all
 all_last P (x ∷ xs) ys all = all_last P xs ys all.1

@@ -9,7 +9,7 @@ use Rattle.store_kept.specs.Kept.{store_of}
 use Rattle.mail_desk.specs.Held.{Held}
 use Rattle.mail_desk.specs.Stamping.{HasSpare, restamped}
 
--- The item has the next number and is made ready to be stored, the effect is what it does and has what it shows, the stamps with the changes
+-- The item has the next number and is made ready to be stored; the effect is what it does and has what it shows. The stamps with the changes
 -- are those after it, and there is room for all of it.
 pub record CanEnter (ready : Ready) (held : Held) : Type 0 where
   pub formed : IsWellFormed held.kept.house ready.item

@@ -50,8 +50,8 @@ behind_named id (s ∷ stamps) = if eq_by_cmp box_cmp s.0 id then Some stamps el
 abbrev pub are_stamps_of : List (BoxId × ℕ) → List (BoxId × Mailbox) → Bool
 are_stamps_of stamps rows = is_eq (slice_cmp box_cmp (map (λ (r : BoxId × ℕ). r.0) stamps) (map (λ (r : BoxId × Mailbox). r.0) rows))
 
--- The base can stand; the bodies and the numbers that it names are at hand; the store is what the items that have come left of it; they
--- are well formed, with distinct numbers below the next that the base does not name; and the size of each text is noted.
+-- The base can stand; the bodies and the numbers that it names are at hand. The store is what the items that have come left of it; they
+-- are well formed, with distinct numbers below the next that the base does not name. The size of each text is noted.
 pub record IsFounding (f : Founded) (named : NamedTexts) (numbers : List ℕ) (store : MailStore) (marks : List (ℕ × Place)) : Type 0 where
   pub house : IsTrue (is_house f.house)
   pub aliases : IsTrue (list_all (λ a. list_all (is_known f.house) a.users) f.opening.aliases)

@@ -35,8 +35,8 @@ undone_left before left =
 abbrev pub asked_left : List Item → Left → List Item
 asked_left before left = timeline_left before left ++ items_behind (undone_left before left)
 
--- what is kept after it: its store, its items in force, its stamps and next number, its report under the key of its request, and the
--- snapshots that can serve still, and what can be withdrawn
+-- What is kept after it: its store, its items in force, its stamps and next number, and its report under the key of its request. And
+-- the snapshots that can serve still, and what can be withdrawn.
 abbrev pub left_as : Kept → List ℕ → Left → Kept
 left_as kept key left = record kept {
   store = left.store.store;
@@ -51,8 +51,8 @@ left_as kept key left = record kept {
 abbrev pub remade_as : Kept → Remade → Kept
 remade_as kept made = left_as kept made.key made.left
 
--- It can be put in the place of what is kept: a valid store of the house, each body of which has a text in force, a timeline that
--- stands on the base, and stamps of its mailboxes, all below the next number, which has risen by what entered.
+-- It can be put in the place of what is kept. It is a valid store of the house, each body of which has a text in force, and a
+-- timeline that stands on the base. Its stamps are of its mailboxes, all below the next number, which has risen by what entered.
 pub record FitsIn (kept : Kept) (left : Left) : Type 0 where
   pub house : left.store.store.house ≡ kept.house
   pub valid : IsValid left.store.store

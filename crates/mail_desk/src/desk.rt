@@ -28,10 +28,9 @@ use verb_core::laws::stamps_name_mailboxes;
 use verb_core::{BoxId, Conf, House, Mailbox, Stamps};
 use withdraw::UndoneBehind;
 
-/// What it begins with, the store, the items in force in order, the stamp of each mailbox, the next
-/// number, each cycle's report by the key of its request, where each text and each snapshot lies, and how many items entered
-/// since the last snapshot, how many snapshots there are, whether names may have superiors, and what the last cycle left to be
-/// withdrawn.
+/// What it begins with, the store, the items in force in order, the stamp of each mailbox, the next number, and each cycle's
+/// report by the key of its request. Where each text and each snapshot lies, how many items entered since the last snapshot, and
+/// how many snapshots there are. And whether names may have superiors, and what the last cycle left to be withdrawn.
 #[derive(Drop)]
 pub struct Desk {
     pub(crate) base: Base,

@@ -45,8 +45,8 @@ pub struct BaseParts {
     pub reports: Reports,
 }
 
-/// The base, the numbers that are named in it, rising, the store that the kept items left so far, these items, where each text lies,
-/// the stamps, the reports, and whether names may have superiors.
+/// The base, the numbers that are named in it, rising, and the store that the kept items left so far. And these items, where each
+/// text lies, the stamps, the reports, and whether names may have superiors.
 #[derive(Drop)]
 pub struct Founding {
     house: House,

@@ -17,8 +17,8 @@ ghost use Rattle.store_kept.specs.Texts.{all_bodies, has_text_among, has_text_wi
 use verb_core::laws::{mail_is_kept, steps_keep_validity};
 
 /// In the store that items lead to each body has a text among them, those before, and those that come with a base, whatever the order
-/// of the items, if in the store before them each has one among the latter two; so it does of the opening store, which has no mail.
-/// What items showed does not matter.
+/// of the items. It needs that in the store before them each has one among the latter two; so it does of the opening store, which has
+/// no mail. What items showed does not matter.
 pub fn bodies_have_texts()
     ensures behind { (texts : BaseTexts) (base : MailStore) (front t : List Item) → IsValid base → AllByRecursion (IsWellFormed base.house) t →
         IsTrue (all_bodies (has_text_with texts front) base.boxes) → IsTrue (all_bodies (has_text_with texts (front ++ t)) (run base t).boxes) }
@@ -34,7 +34,7 @@ pub fn bodies_have_texts()
     mail_is_kept();
 }
 
-/// The base carries what is kept: so does the opening store at first, and it goes on by each item of the next number and by
+/// The base carries what is kept. So does the opening store at first, and it goes on by each item of the next number and by
 /// whatever other items can stand on it. Each body in it has a text, whatever the items.
 pub fn bases_carry()
     ensures opening { (house : House) (conf : Conf) → IsTrue (is_house house) → IsTrue (list_all (λ a. list_all (is_known house) a.users) conf.aliases) → HasBase (new_desk house conf) }

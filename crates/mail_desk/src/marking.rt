@@ -17,8 +17,8 @@ impl Desk {
         self.since
     }
 
-    /// The snapshots from which a cycle can begin that were taken after no more items than these, each by the number of items
-    /// after which it was taken, rising, with where it lies. It takes no memory.
+    /// The snapshots from which a cycle can begin that were taken after no more items than these. Each is told by the number of
+    /// items after which it was taken, rising, with where it lies. It takes no memory.
     pub fn marks_at_or_before(&self, position: u32) -> &[(u32, Place)]
         ensures marks { result.now ≡ not_behind_of position self.now.marks }
         ensures places { map (λ (m : ℕ × ThePlace). m.0) result.now ≡ not_behind position self.now.kept.marks.places }

@@ -245,9 +245,9 @@ fn shelved(alloc: Global, rows: &[(Body, Note)]) -> Result<Shelf, NoMemory>
     Ok(shelf)
 }
 
-/// Where all texts lie, those that come with a base, those of the first items, of those behind them, and of those that can come back,
-/// which lay somewhere before: where they lay before, or else in a cycle's own record; a notice's text is noted with the record's place, from 0. Where a
-/// note has another length than its text it finds no memory.
+/// Where all texts lie: those that come with a base, those of the first items, of those behind them, and of those that can come back, which lay
+/// somewhere before. They lie where they lay before, or else in a cycle's own record; a notice's text is noted with the record's place, from 0. Where
+/// a note has another length than its text it finds no memory.
 pub(crate) fn noted_anew(
     alloc: Global,
     old: &Shelf,

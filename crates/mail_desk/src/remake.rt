@@ -24,8 +24,8 @@ use verb_core::Stamps;
 use withdraw::UndoneBehind;
 
 /// What a repair leaves of a desk: the store, how many of the first items stay where they are and those behind them, the stamp of each
-/// mailbox, the next number, the place behind which all is performed anew, how many items stand before its notices, how many entered,
-/// the report, and whether it can be withdrawn.
+/// mailbox, and the next number. And the place behind which all is performed anew, how many items stand before its notices, how many
+/// entered, the report, and whether it can be withdrawn.
 #[derive(Drop)]
 pub struct Left {
     pub store: Store,
@@ -41,7 +41,7 @@ pub struct Left {
 }
 
 /// The same under the key of its request, with where the texts lie, and room for the items behind the place, where they are to be
-/// kept: it can be put in place with no memory taken.
+/// kept. It can be put in place with no memory taken.
 #[derive(Drop)]
 pub struct Remade {
     pub(crate) left: Left,
@@ -199,9 +199,9 @@ fn put<T: Drop>(place: &mut T, value: T)
 }
 
 impl Desk {
-    /// Makes what a repair leaves ready, under the key of its request: where the texts of all items lie that may be asked for
-    /// afterwards, in any order of numbers, and room for the items and for the report. A text keeps the note that its body had; another lies in the repair's own record, and
-    /// a notice's, which no record holds, is noted there from 0. The desk stays as it was but for its room.
+    /// Makes what a repair leaves ready, under the key of its request. That is where the texts of all items lie that may be asked for afterwards, in
+    /// any order of numbers, and room for the items and for the report. A text keeps the note that its body had; another lies in the repair's own
+    /// record, and a notice's, which no record holds, is noted there from 0. The desk stays as it was but for its room.
     pub fn remake(
         &mut self,
         alloc: Global,

@@ -5,7 +5,7 @@ use Rattle.undo_outside.specs.Disk.{DiskTold}
 use Rattle.verb_bytes.specs.declared.journal.JournalRecord.{JournalRecord}
 use Rattle.store_kept.specs.Kept.{Kept}
 use Rattle.desk_journal.specs.Lasting.{Lasting}
-use Rattle.mail_loop.specs.Counts.{Counts, none_counted}
+use Rattle.mail_loop.specs.TurnCounts.{TurnCounts, none_counted}
 use Rattle.console_session.specs.declared.reply.After.{After}
 use Rattle.console_session.specs.declared.reply.After.TheVariants.{Waits, Closes, Stops, Fails, Rewinds, Upgrades}
 use Rattle.console_session.specs.declared.reply.Reply.{Reply}
@@ -52,7 +52,7 @@ as_it_is console.UnreadUnheard = refl
 as_it_is (console.Misread said left) = refl
 
 -- the connection stays open where it waits, and is closed else
-by_after : (conn : ℕ) (said : List ℕ) (after : After) (kept : Kept) (seats : Seats) (failed : List JournalRecord) (counts : Counts) (readings : List Reading) (all came : List ℕ)
+by_after : (conn : ℕ) (said : List ℕ) (after : After) (kept : Kept) (seats : Seats) (failed : List JournalRecord) (counts : TurnCounts) (readings : List Reading) (all came : List ℕ)
     → (after ≡ Waits → came ≡ all)
     → heard conn (record {
       said = said;
@@ -90,7 +90,7 @@ console_heard {D} told nothing at came came' bytes conn seats old new r (IsUnfed
 console_heard {D} told nothing at came came' bytes conn seats old new r (AreServed stage says serves) waits =
     let turn = serves.turn_is in
     let t = console.hindered serves.hindrance at old.kept (asked_of old.kept.house stage) in
-    let counts : Counts = record { reads = t.reads; starved = t.starved } in
+    let counts : TurnCounts = record { reads = t.reads; out_of_memory = t.out_of_memory } in
     let reading : Reading = record { bytes = came ++ bytes; stage = stage } in
     let readings = reading ∷ [] in
     let s : State = record { kept = old.kept; seats = seats } in (
@@ -99,7 +99,7 @@ console_heard {D} told nothing at came came' bytes conn seats old new r (AreServ
       stage,
       t.unsealed,
       counts,
-      (t.sealed, turn.seals, record { reads = turn.read; starved = turn.starved }),
+      (t.sealed, turn.seals, record { reads = turn.read; out_of_memory = turn.out_of_memory }),
       readings,
       (says, tt),
       ap (λ (h : console.Hindrance).
@@ -110,7 +110,7 @@ console_heard {D} told nothing at came came' bytes conn seats old new r (AreServ
             seat = option_map Http (left_by u.after (came ++ bytes));
             aftermath = (sequel_of u.after).aftermath;
             unsealed = u.unsealed;
-            counts = record { reads = u.reads; starved = u.starved };
+            counts = record { reads = u.reads; out_of_memory = u.out_of_memory };
             consoles = record { readings = readings; stops = (sequel_of u.after).stops };
           })) (as_it_is serves.hindrance)
           ∙ by_after conn t.said t.after t.kept seats t.unsealed counts readings (came ++ bytes) came' (λ e. waits (ap (λ (q : Reply). q.after) turn.reply_is ∙ e))

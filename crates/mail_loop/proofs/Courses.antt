@@ -80,11 +80,11 @@ module _ {D : Type 0} (told : D → DiskTold) where
       turns = seals;
       telling_is = kept;
       read = counted.reads;
-      starved = counted.starved;
+      out_of_memory = counted.out_of_memory;
       unkept = [];
       keeps = same_sealed nothing mid;
       unread = nothing_read told mid mid refl;
-      starved_behind = subst (λ (n : ℕ). Counted n (told mid.disk).starved (told mid.disk).starved) (sym none) (counted_none (told mid.disk).starved (told mid.disk).starved refl);
+      out_of_memory_behind = subst (λ (n : ℕ). Counted n (told mid.disk).out_of_memory (told mid.disk).out_of_memory) (sym none) (counted_none (told mid.disk).out_of_memory (told mid.disk).out_of_memory refl);
       stays = λ shut. (refl, refl);
     },
     refl,
@@ -105,12 +105,12 @@ module _ {D : Type 0} (told : D → DiskTold) where
           turns = sealed.1;
           telling_is = kept;
           read = sealed.2.reads;
-          starved = sealed.2.starved;
+          out_of_memory = sealed.2.out_of_memory;
           unkept = _;
           keeps = keeps.seals.1;
           unread = subst (λ (r : Reads). HaveRead told mid new r) (unread_if (is_due_on mid) (unwritten_by k)) keeps.seals.2.reads;
-          starved_behind = subst (λ (j : Keeping). Counted (unwritten_on j mid) (told mid.disk).starved (told new.disk).starved) is
-              (subst (λ (n : ℕ). Counted n (told mid.disk).starved (told new.disk).starved) (wanting_if (is_due_on mid) (unwritten_by k)) keeps.seals.2.starved);
+          out_of_memory_behind = subst (λ (j : Keeping). Counted (unwritten_on j mid) (told mid.disk).out_of_memory (told new.disk).out_of_memory) is
+              (subst (λ (n : ℕ). Counted n (told mid.disk).out_of_memory (told new.disk).out_of_memory) (wanting_if (is_due_on mid) (unwritten_by k)) keeps.seals.2.out_of_memory);
           stays = λ wrong. absurd (let no : true ≡ false = sym wrong ∙ shut in cc);
         },
         refl,
@@ -119,10 +119,10 @@ module _ {D : Type 0} (told : D → DiskTold) where
   -- the end, and the snapshot that was due then
   pub went_end : Nothing told → (s : State) (event : Event) → is_end event.what ≡ true → (h : Hindrances) → h.unfed ≡ false → h.turns ≡ [] → h.stage ≡ Ok None → (k : Keeping) → k ≡ h.keeping → (old new : Lasting D)
       → old.closed ≡ false → old.kept ≡ s.kept → Keeps told k old new → GoesThrough told s (record { event = event; hindrances = h }) old new
-  went_end nothing s event ends h fed turns stage k same old new open' kept keeps =
+  went_end nothing s event ends h finds_memory turns stage k same old new open' kept keeps =
       let step : Step = record { event = event; hindrances = h } in
       let is : ignored s ≡ turned s step =
-      sym (end_ignored s event ends) ∙ (λ j. answered (sym fed j) (sym turns j) (sym stage j) s event) in
+      sym (end_ignored s event ends) ∙ (λ j. answered (sym finds_memory j) (sym turns j) (sym stage j) s event) in
       went_on nothing s step k old old new same open' (subst (λ (a : Answered). HaveSealed told old old a.unsealed a.counts) is (unsealed told nothing old)) (kept ∙ ap (λ (a : Answered). a.state.kept) is) keeps
 
   -- ---- one step more

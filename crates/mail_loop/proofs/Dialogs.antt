@@ -21,7 +21,7 @@ use Rattle.mail_desk.specs.Desk.{Submitted, submitted_as}
 use Rattle.verb_bytes.specs.declared.journal.JournalRecord.{JournalRecord}
 use Rattle.verb_bytes.specs.declared.journal.JournalRecord.TheVariants.{Verb}
 use Rattle.desk_journal.specs.Reading.{Reads, failed_once, none_read, wrong_once}
-use Rattle.mail_loop.specs.Counts.{Counts, none_counted, read_so, wanting}
+use Rattle.mail_loop.specs.TurnCounts.{TurnCounts, none_counted, read_so, wanting}
 use Rattle.mail_loop.specs.declared.out.Out.{Out}
 use Rattle.mail_loop.specs.declared.out.Out.TheVariants.{Say, Read, Submit, Bye}
 use Rattle.mail_loop.specs.declared.reply.Reply.{Reply}
@@ -30,16 +30,16 @@ use Rattle.mail_loop.specs.Asked.{Asked, asked_as, unsealed_as, unwritten}
 use Rattle.mail_loop.specs.Turn.{Turn, ends, lost, reading, says, unanswered}
 use Rattle.mail_loop.specs.Session.{IsBye, Speech, Took, behind, done, followed, is_answer, is_home, is_said, pursued, pursued_as, settled, settled_as, submits, took}
 use Rattle.mail_loop.specs.Hindrance.{Hindrance, Clear, Refused as IsToldWant, Textless, Unread, UnreadRefused, UnreadUnheard, Misread, Misled, Unstored, Unheard, Unanswered, Unsealed, Untold, Unwritten, UnwrittenUnheard, Halfway, Service, halfway, last_hindrance, misread, service, some_recorded, stopped, under, unread, unread_unsaid, without_items, without_seals, without_texts, without_writes}
-use Rattle.mail_loop.specs.Took.{Adds, AsksAs, IsAwaitedLast, IsDueNext, IsLast, IsNone, IsOnlySaid, IsTold, ReadsNone, ReadsStarved, Settles, SettlesAgain, SettlesOrAsks, Submits, Takes, TakesTexts, Wrote, asked_in, given, reads_of}
-use Rattle.mail_loop.proofs.Refusals.{due_or_starved}
-use Rattle.mail_loop.proofs.Telling.{closed, lifted, starved_too, told_last, told_nothing, told_whole, unsealed_too}
+use Rattle.mail_loop.specs.Took.{Adds, AsksAs, IsAwaitedLast, IsDueNext, IsLast, IsNone, IsOnlySaid, IsTold, ReadsNone, ReadsOutOfMemory, Settles, SettlesAgain, SettlesOrAsks, Submits, Takes, TakesTexts, Wrote, asked_in, given, reads_of}
+use Rattle.mail_loop.proofs.Refusals.{due_or_out_of_memory}
+use Rattle.mail_loop.proofs.Telling.{closed, lifted, out_of_memory_too, told_last, told_nothing, told_whole, unsealed_too}
 
 house_as : (kept : Kept) (due : Result Item Refused) → (submitted_as kept due).kept.house ≡ kept.house
 house_as kept (Ok item) = refl
 house_as kept (Err why) = refl
 
 -- what is asked leaves the house as it is
-pub house_stays : (S : List JournalRecord → Counts → Type 0) (kept kept' : Kept) (at : ℕ) (by : Option User) (ask : Ask) (outcome : Result Item SubmitFault)
+pub house_stays : (S : List JournalRecord → TurnCounts → Type 0) (kept kept' : Kept) (at : ℕ) (by : Option User) (ask : Ask) (outcome : Result Item SubmitFault)
     → Submits S at kept by ask kept' outcome → kept'.house ≡ kept.house
 house_stays S kept kept' at by ask (Ok item) (is, seals) =
     sym (ap (λ (s : Submitted). s.kept.house) is) ∙ house_as kept (live (store_of kept) kept.next at by ask kept.deep)
@@ -113,7 +113,7 @@ module _ {D : Type 0} where
   ended (Submit ask) kept d failed wrong = absurd wrong
 
   -- mailboxes were noted before
-  noted : (S : List JournalRecord → Counts → Type 0) (t : Turn D) (ids : List BoxId) (old old' : Reply) (kept : Kept) (e : D) (new : Reply) → old' ≡ record old { gone = old.gone ++ ids }
+  noted : (S : List JournalRecord → TurnCounts → Type 0) (t : Turn D) (ids : List BoxId) (old old' : Reply) (kept : Kept) (e : D) (new : Reply) → old' ≡ record old { gone = old.gone ++ ids }
       → t.gone ≡ [] → Takes S t old' kept e new → Takes S (record t { gone = ids }) old kept e new
   noted S t ids old old' kept e new is none takes = record {
     conn = takes.conn ∙ ap (λ (r : Reply). r.conn) is;
@@ -125,15 +125,15 @@ module _ {D : Type 0} where
   }
 
   -- the same turn, for which texts were read so
-  reread : (S S' : List JournalRecord → Counts → Type 0) (r : Reads) (t : Turn D) (old : Reply) (kept : Kept) (d : D) (new : Reply) → t.counts.reads ≡ none_read
-      → ((failed : List JournalRecord) (n : ℕ) → S failed (wanting n) → S' failed (record { reads = r; starved = n })) → Takes S t old kept d new → Takes S' (reading r t) old kept d new
+  reread : (S S' : List JournalRecord → TurnCounts → Type 0) (r : Reads) (t : Turn D) (old : Reply) (kept : Kept) (d : D) (new : Reply) → t.counts.reads ≡ none_read
+      → ((failed : List JournalRecord) (n : ℕ) → S failed (wanting n) → S' failed (record { reads = r; out_of_memory = n })) → Takes S t old kept d new → Takes S' (reading r t) old kept d new
   reread S S' r t old kept d new quiet then takes = record {
     conn = takes.conn;
     said = takes.said;
     kept_is = takes.kept_is;
     dialog_is = takes.dialog_is;
     gone = takes.gone;
-    seals = then t.unsealed t.counts.starved (subst (λ (q : Reads). S t.unsealed (record { reads = q; starved = t.counts.starved })) quiet takes.seals);
+    seals = then t.unsealed t.counts.out_of_memory (subst (λ (q : Reads). S t.unsealed (record { reads = q; out_of_memory = t.counts.out_of_memory })) quiet takes.seals);
   }
 
 -- no mailbox is gone between a store and itself
@@ -266,7 +266,7 @@ module _ {D : Type 0} (speech : Speech D) where
   as_settled kept d a none = λ j. record (settled speech d a) { gone = (none ∙ sym (none_gone d a)) j }
 
   -- the connection closes with no answer to what is kept, whose mailboxes were noted before
-  closed_on : (S : List JournalRecord → Counts → Type 0) (before : Kept) (d : D) (item : Item) (k : Kept) (old old' : Reply) (kept : Kept) (e : D) (new : Reply)
+  closed_on : (S : List JournalRecord → TurnCounts → Type 0) (before : Kept) (d : D) (item : Item) (k : Kept) (old old' : Reply) (kept : Kept) (e : D) (new : Reply)
       → old' ≡ record old { gone = old.gone ++ gone_between before k } → Takes IsNone (ends {D = D} [] k) old' kept e new → S [] none_counted
       → Takes S (unanswered (done speech before d (asked_as (Ok item) k))) old kept e new
   closed_on S before d item k old old' kept e new is takes none =
@@ -282,7 +282,7 @@ module _ {D : Type 0} (speech : Speech D) where
 
   -- where an ask could not be sealed the client is told, and its connection closes
   settled_unsealed : (d : D) (kept : Kept) (failed : List JournalRecord) → speech.is_due d ≡ true
-      → settled speech d (record { outcome = Err Disk; kept = kept; unsealed = failed; starved = 0 })
+      → settled speech d (record { outcome = Err Disk; kept = kept; unsealed = failed; out_of_memory = 0 })
       ≡ record (ends {D = D} (words (speech.settle (store_of kept) kept.stamps d (Err Disk)).out) kept) { unsealed = failed }
   settled_unsealed d kept failed due =
       let t = speech.settle (store_of kept) kept.stamps d (Err Disk) in
@@ -310,7 +310,7 @@ module _ {D : Type 0} (speech : Speech D) where
   stops_as desk kept d a (Read bodies) e = refl
   stops_as desk kept d a (Submit ask) e =
       let gone = gone_between kept a.kept in
-      λ j. record { said = []; kept = sym (kept_settled d a) j; dialog = None; gone = append-nil gone j; unsealed = append-nil a.unsealed j; counts = wanting (add-zero a.starved j) }
+      λ j. record { said = []; kept = sym (kept_settled d a) j; dialog = None; gone = append-nil gone j; unsealed = append-nil a.unsealed j; counts = wanting (add-zero a.out_of_memory j) }
 
   pub pursued_concludes : (kept : Kept) (d : D) → Concludes kept d (λ desk a. pursued speech desk kept d a)
   pursued_concludes kept d = record {
@@ -319,7 +319,7 @@ module _ {D : Type 0} (speech : Speech D) where
   }
 
   -- what is asked of the desk is a turn, hindered or not
-  pub asked_turn : (S : List JournalRecord → Counts → Type 0) (at : ℕ) (kept kept' : Kept) (ask : Ask) (d e : D) (outcome : Result Item SubmitFault) (old old' new : Reply) (T : Service → Asked → Turn D) → Concludes kept d T
+  pub asked_turn : (S : List JournalRecord → TurnCounts → Type 0) (at : ℕ) (kept kept' : Kept) (ask : Ask) (d e : D) (outcome : Result Item SubmitFault) (old old' new : Reply) (T : Service → Asked → Turn D) → Concludes kept d T
       → speech.is_due d ≡ true → NoneGone kept → old' ≡ record old { gone = old.gone ++ gone_between kept kept' }
       → Submits S at kept (speech.user d) ask kept' outcome
       → Settles speech outcome kept' d old' e new
@@ -382,13 +382,13 @@ module _ {D : Type 0} (speech : Speech D) where
 
       -- a refusal that is told takes no mailbox away; so many writes found no memory for it
       refused : (desk : Service) (r : Refused) (n : ℕ) → S [] (wanting n) → Takes IsNone (settled speech d (asked_as (Err (IsRefused r)) kept')) old kept' e new
-          → Takes S (T desk (record { outcome = Err (IsRefused r); kept = kept; unsealed = []; starved = n })) old kept' e new
+          → Takes S (T desk (record { outcome = Err (IsRefused r); kept = kept; unsealed = []; out_of_memory = n })) old kept' e new
       refused desk r n seals t =
-          let a : Asked = record { outcome = Err (IsRefused r); kept = kept; unsealed = []; starved = n } in
+          let a : Asked = record { outcome = Err (IsRefused r); kept = kept; unsealed = []; out_of_memory = n } in
           subst (λ (u : Turn D). Takes S u old kept' e new) (sym (concludes.told desk a (speech.answers_fault (store_of kept) kept.stamps d (IsRefused r) due)))
           (subst (λ (u : Turn D). Takes S u old kept' e new) (sym (as_settled kept d a none))
-          (subst (λ (k : Kept). Takes S (settled speech d (record { outcome = Err (IsRefused r); kept = k; unsealed = []; starved = n })) old kept' e new) same
-          (starved_too S (settled speech d (asked_as (Err (IsRefused r)) kept')) n old kept' e new t seals)))
+          (subst (λ (k : Kept). Takes S (settled speech d (record { outcome = Err (IsRefused r); kept = k; unsealed = []; out_of_memory = n })) old kept' e new) same
+          (out_of_memory_too S (settled speech d (asked_as (Err (IsRefused r)) kept')) n old kept' e new t seals)))
 
       by_cause : S [] none_counted → (why ≡ NoMemory) ⊎ (live (store_of kept) kept.next at (speech.user d) ask kept.deep ≡ Err why)
           → Takes IsNone (settled speech d (asked_as (Err (IsRefused why)) kept')) old kept' e new → Turns
@@ -414,16 +414,16 @@ module _ {D : Type 0} (speech : Speech D) where
           })
 
       by_wrote : Wrote S why → Settles speech (Err (IsRefused why)) kept' d old e new → Turns
-      by_wrote (inl seals) (inl (answers, t)) = by_cause seals (due_or_starved why (live (store_of kept) kept.next at (speech.user d) ask kept.deep) refusal) t
+      by_wrote (inl seals) (inl (answers, t)) = by_cause seals (due_or_out_of_memory why (live (store_of kept) kept.next at (speech.user d) ask kept.deep) refusal) t
       by_wrote (inl seals) (inr (inl t)) = (Unheard, subst (λ (k : Kept). Takes S (ends {D = D} [] k) old kept' e new) same (lifted S (ends {D = D} [] kept') old kept' e new t seals))
       by_wrote (inl seals) (inr (inr t)) = (Unstored, refused (without_items kept (service at kept)) NoMemory 0 seals t.1)
-      by_wrote (inr (starved, seals)) (inl (answers, t)) =
-          (Unwritten, refused (without_writes kept (service at kept)) NoMemory 1 seals (subst (λ (r : Refused). Takes IsNone (settled speech d (asked_as (Err (IsRefused r)) kept')) old kept' e new) starved t))
-      by_wrote (inr (starved, seals)) (inr (inl t)) = (UnwrittenUnheard, unwritten_untold seals t)
-      by_wrote (inr (starved, seals)) (inr (inr t)) = (Unwritten, refused (without_writes kept (service at kept)) NoMemory 1 seals t.1)
+      by_wrote (inr (out_of_memory, seals)) (inl (answers, t)) =
+          (Unwritten, refused (without_writes kept (service at kept)) NoMemory 1 seals (subst (λ (r : Refused). Takes IsNone (settled speech d (asked_as (Err (IsRefused r)) kept')) old kept' e new) out_of_memory t))
+      by_wrote (inr (out_of_memory, seals)) (inr (inl t)) = (UnwrittenUnheard, unwritten_untold seals t)
+      by_wrote (inr (out_of_memory, seals)) (inr (inr t)) = (Unwritten, refused (without_writes kept (service at kept)) NoMemory 1 seals t.1)
 
   -- the same, of an ask whose asker was told
-  pub asked_turn_by : (S : List JournalRecord → Counts → Type 0) (at : ℕ) (kept kept' : Kept) (by : Option User) (ask : Ask) (d e : D) (outcome : Result Item SubmitFault) (old old' new : Reply) (T : Service → Asked → Turn D) → Concludes kept d T
+  pub asked_turn_by : (S : List JournalRecord → TurnCounts → Type 0) (at : ℕ) (kept kept' : Kept) (by : Option User) (ask : Ask) (d e : D) (outcome : Result Item SubmitFault) (old old' new : Reply) (T : Service → Asked → Turn D) → Concludes kept d T
       → by ≡ speech.user d
       → speech.is_due d ≡ true
       → NoneGone kept
@@ -457,20 +457,20 @@ module _ {D : Type 0} (speech : Speech D) where
   last_same (Halfway h) at kept e ask = refl
 
   -- its turn stands behind that of the first, of which S is known with it
-  behind_takes : (S S' : List JournalRecord → Counts → Type 0) (t : Turn D) (ids : List BoxId) (old old' : Reply) (kept : Kept) (e : D) (new : Reply) → old' ≡ record old { gone = old.gone ++ ids }
-      → ((failed : List JournalRecord) (c : Counts) → S failed c → S' failed c) → Takes S t old' kept e new → Takes S' (behind ids [] 0 t) old kept e new
+  behind_takes : (S S' : List JournalRecord → TurnCounts → Type 0) (t : Turn D) (ids : List BoxId) (old old' : Reply) (kept : Kept) (e : D) (new : Reply) → old' ≡ record old { gone = old.gone ++ ids }
+      → ((failed : List JournalRecord) (c : TurnCounts) → S failed c → S' failed c) → Takes S t old' kept e new → Takes S' (behind ids [] 0 t) old kept e new
   behind_takes S S' t ids old old' kept e new is then takes = record {
     conn = takes.conn ∙ ap (λ (r : Reply). r.conn) is;
     said = takes.said ∙ ap (λ (r : Reply). r.said ++ t.said) is;
     kept_is = takes.kept_is;
     dialog_is = takes.dialog_is;
     gone = takes.gone ∙ ap (λ (r : Reply). r.gone ++ t.gone) is ∙ append_assoc old.gone ids t.gone;
-    seals = subst (λ (n : ℕ). S' t.unsealed (record { reads = t.counts.reads; starved = n })) (sym (zero-add t.counts.starved)) (then t.unsealed t.counts takes.seals);
+    seals = subst (λ (n : ℕ). S' t.unsealed (record { reads = t.counts.reads; out_of_memory = n })) (sym (zero-add t.counts.out_of_memory)) (then t.unsealed t.counts takes.seals);
   }
 
   -- an ask was done that led to a further one
-  further_turn : (S S' : List JournalRecord → Counts → Type 0) (at : ℕ) (kept kept' left : Kept) (ask asked : Ask) (d e f : D) (item : Item) (old old' new : Reply)
-      → ((failed : List JournalRecord) (c : Counts) → S failed c → S' failed c)
+  further_turn : (S S' : List JournalRecord → TurnCounts → Type 0) (at : ℕ) (kept kept' left : Kept) (ask asked : Ask) (d e f : D) (item : Item) (old old' new : Reply)
+      → ((failed : List JournalRecord) (c : TurnCounts) → S failed c → S' failed c)
       → old' ≡ record old { gone = old.gone ++ gone_between kept kept' }
       → submitted_as kept (live (store_of kept) kept.next at (speech.user d) ask kept.deep) ≡ record { outcome = Ok item; kept = kept' }
       → speech.settle (store_of kept') kept'.stamps d (Ok item) ≡ took (Submit asked) e
@@ -485,9 +485,9 @@ module _ {D : Type 0} (speech : Speech D) where
   )
 
   -- the same, of what became of the first
-  pub asked_further : (S T S' : List JournalRecord → Counts → Type 0) (at : ℕ) (kept kept' left : Kept) (by : Option User) (ask asked : Ask) (d e f : D) (outcome : Result Item SubmitFault) (old old' new : Reply)
+  pub asked_further : (S T S' : List JournalRecord → TurnCounts → Type 0) (at : ℕ) (kept kept' left : Kept) (by : Option User) (ask asked : Ask) (d e f : D) (outcome : Result Item SubmitFault) (old old' new : Reply)
       → by ≡ speech.user d → speech.is_due d ≡ true
-      → (S [] none_counted → (failed : List JournalRecord) (c : Counts) → T failed c → S' failed c)
+      → (S [] none_counted → (failed : List JournalRecord) (c : TurnCounts) → T failed c → S' failed c)
       → old' ≡ record old { gone = old.gone ++ gone_between kept kept' }
       → Submits S at kept by ask kept' outcome
       → speech.settle (store_of kept') kept'.stamps d outcome ≡ took (Submit asked) e
@@ -500,7 +500,7 @@ module _ {D : Type 0} (speech : Speech D) where
       (subst (λ (u : Option User). submitted_as kept (live (store_of kept) kept.next at u ask kept.deep) ≡ record { outcome = Ok item; kept = kept' }) same does) settles turn
 
   -- what was done before a further ask is sealed
-  pub sealed_before : (S : List JournalRecord → Counts → Type 0) (at : ℕ) (kept kept' : Kept) (by : Option User) (ask asked : Ask) (d e : D) (outcome : Result Item SubmitFault) → speech.is_due d ≡ true
+  pub sealed_before : (S : List JournalRecord → TurnCounts → Type 0) (at : ℕ) (kept kept' : Kept) (by : Option User) (ask asked : Ask) (d e : D) (outcome : Result Item SubmitFault) → speech.is_due d ≡ true
       → Submits S at kept by ask kept' outcome → speech.settle (store_of kept') kept'.stamps d outcome ≡ took (Submit asked) e → S [] none_counted
   sealed_before S at kept kept' by ask asked d e (Ok item) due did settles = did.1
   sealed_before S at kept kept' by ask asked d e (Err fault) due did settles =
@@ -509,14 +509,14 @@ module _ {D : Type 0} (speech : Speech D) where
   -- ---- what a session gives
 
   -- an ask of a unit that has its texts
-  pub submits_turn : (S : List JournalRecord → Counts → Type 0) (at : ℕ) (kept kept' : Kept) (out gives : Out) (d e : D) (old new : Reply) → out ≡ gives
+  pub submits_turn : (S : List JournalRecord → TurnCounts → Type 0) (at : ℕ) (kept kept' : Kept) (out gives : Out) (d e : D) (old new : Reply) → out ≡ gives
       → (h : Hindrance) × Takes S (under h at kept (λ desk. submits speech desk kept gives d)) old kept' e new
       → (h : Hindrance) × Takes S (under h at kept (λ desk. submits speech desk kept out d)) old kept' e new
   submits_turn S at kept kept' out gives d e old new is t =
       subst (λ (o : Out). (h : Hindrance) × Takes S (under h at kept (λ desk. submits speech desk kept o d)) old kept' e new) (sym is) t
 
   -- what comes of what the session gives
-  pub out_turn : (S : List JournalRecord → Counts → Type 0) (at : ℕ) (kept kept' : Kept) (out gives : Out) (d e : D) (old new : Reply) → out ≡ gives
+  pub out_turn : (S : List JournalRecord → TurnCounts → Type 0) (at : ℕ) (kept kept' : Kept) (out gives : Out) (d e : D) (old new : Reply) → out ≡ gives
       → (h : Hindrance) × Takes S (under h at kept (λ desk. followed speech desk kept gives d)) old kept' e new
       → (h : Hindrance) × Takes S (under h at kept (λ desk. followed speech desk kept out d)) old kept' e new
   out_turn S at kept kept' out gives d e old new is t =
@@ -578,7 +578,7 @@ module _ {D : Type 0} (speech : Speech D) where
       quiet_pursued desk kept d a t.out t.dialog
 
   -- turns before which texts were read, of which S is known behind that, and S' with it
-  module _ (S S' : List JournalRecord → Counts → Type 0) (at : ℕ) (kept kept' : Kept) (e : D) (old new : Reply) where
+  module _ (S S' : List JournalRecord → TurnCounts → Type 0) (at : ℕ) (kept kept' : Kept) (e : D) (old new : Reply) where
     abbrev pub Before : Turn D → Type 0
     Before t = Takes S t old kept' e new
 
@@ -587,7 +587,7 @@ module _ {D : Type 0} (speech : Speech D) where
 
     -- where texts were read so before, S' holds of that and of the rest
     abbrev pub AsRead : Reads → Type 0
-    AsRead r = (failed : List JournalRecord) (n : ℕ) → S failed (wanting n) → S' failed (record { reads = r; starved = n })
+    AsRead r = (failed : List JournalRecord) (n : ℕ) → S failed (wanting n) → S' failed (record { reads = r; out_of_memory = n })
 
     -- the texts were others
     pub wrong_turn : AsRead none_read → AsRead wrong_once
@@ -668,7 +668,7 @@ module _ {D : Type 0} (speech : Speech D) where
     right_turn bodies d none (Halfway h) t = (Halfway h, right_with bodies d (halfway h (service at kept)) none t)
 
   -- an ask of a unit that has its texts
-  pub given_turn : (S : List JournalRecord → Counts → Type 0) (at : ℕ) (kept kept' : Kept) (texts : List (List ℕ)) (out : Out) (d e e' : D) (old new : Reply)
+  pub given_turn : (S : List JournalRecord → TurnCounts → Type 0) (at : ℕ) (kept kept' : Kept) (texts : List (List ℕ)) (out : Out) (d e e' : D) (old new : Reply)
       → speech.heard d (Ok texts) ≡ took out e
       → (h : Hindrance) × Takes S (under h at kept (λ desk. submits speech desk kept out e)) old kept' e' new
       → TakesTexts speech S at kept texts d old kept' e' new
@@ -685,11 +685,11 @@ module _ {D : Type 0} (speech : Speech D) where
       by_told (inr t) = inr (inr t)
 
   -- it was told of want of memory
-  pub read_starved : (kept : Kept) (d e : D) (out : Out) (old new : Reply) → old.closes ≡ false
-      → speech.heard d (Err NoneForTexts) ≡ took out e → IsTold out old new → ReadsStarved speech kept d old e new
-  read_starved kept d e out old new stays is told = by_told (out_told out kept e old new stays told)
+  pub read_out_of_memory : (kept : Kept) (d e : D) (out : Out) (old new : Reply) → old.closes ≡ false
+      → speech.heard d (Err NoneForTexts) ≡ took out e → IsTold out old new → ReadsOutOfMemory speech kept d old e new
+  read_out_of_memory kept d e out old new stays is told = by_told (out_told out kept e old new stays told)
     where
-      by_told : Takes IsNone (settled_as out kept e) old kept e new ⊎ Takes IsNone (ends {D = D} [] kept) old kept e new → ReadsStarved speech kept d old e new
+      by_told : Takes IsNone (settled_as out kept e) old kept e new ⊎ Takes IsNone (ends {D = D} [] kept) old kept e new → ReadsOutOfMemory speech kept d old e new
       by_told (inl t) = inl (subst (λ (u : Took D). Takes IsNone (settled_as u.out kept u.dialog) old kept e new) (sym is) t)
       by_told (inr t) = inr t
 
@@ -707,13 +707,13 @@ module _ {D : Type 0} (speech : Speech D) where
   only_ended desk kept (Submit ask) d wrong = absurd (true≢false (sym wrong))
 
   -- where nothing was counted but how texts were read
-  none_read_so : (S : List JournalRecord → Counts → Type 0) (r : Reads) → S [] (read_so r) → (failed : List JournalRecord) (n : ℕ) → IsNone failed (wanting n) → S failed (record { reads = r; starved = n })
+  none_read_so : (S : List JournalRecord → TurnCounts → Type 0) (r : Reads) → S [] (read_so r) → (failed : List JournalRecord) (n : ℕ) → IsNone failed (wanting n) → S failed (record { reads = r; out_of_memory = n })
   none_read_so S r none failed n is =
-      subst (λ (f : List JournalRecord). S f (record { reads = r; starved = n })) (sym is.0)
-      (subst (λ (c : Counts). S [] (record { reads = r; starved = c.starved })) (sym is.1) none)
+      subst (λ (f : List JournalRecord). S f (record { reads = r; out_of_memory = n })) (sym is.0)
+      (subst (λ (c : TurnCounts). S [] (record { reads = r; out_of_memory = c.out_of_memory })) (sym is.1) none)
 
   -- what is told of it is what comes of a service that has no texts
-  told_why : (S : List JournalRecord → Counts → Type 0) (why : ReadFault) (r : Reads) (desk : Service) (kept : Kept) (d e : D) (old new : Reply) → speech.takes_texts d ≡ true → S [] (read_so r)
+  told_why : (S : List JournalRecord → TurnCounts → Type 0) (why : ReadFault) (r : Reads) (desk : Service) (kept : Kept) (d e : D) (old new : Reply) → speech.takes_texts d ≡ true → S [] (read_so r)
       → Takes IsNone (let u = speech.heard d (Err why) in settled_as u.out kept u.dialog) old kept e new
       → Takes S (let u = speech.heard d (Err why) in reading r (submits speech desk kept u.out u.dialog)) old kept e new
   told_why S why r desk kept d e old new awaits none t =
@@ -723,7 +723,7 @@ module _ {D : Type 0} (speech : Speech D) where
       (reread IsNone S r (settled_as u.out kept u.dialog) old kept e new (none_wanted u.out kept u.dialog) (none_read_so S r none) t)
 
   -- where nothing is told of it the connection closes
-  ended_why : (S : List JournalRecord → Counts → Type 0) (why : ReadFault) (r : Reads) (desk : Service) (kept : Kept) (d e : D) (old new : Reply) → speech.takes_texts d ≡ true → S [] (read_so r)
+  ended_why : (S : List JournalRecord → TurnCounts → Type 0) (why : ReadFault) (r : Reads) (desk : Service) (kept : Kept) (d e : D) (old new : Reply) → speech.takes_texts d ≡ true → S [] (read_so r)
       → Takes IsNone (ends {D = D} [] kept) old kept e new
       → Takes S (let u = speech.heard d (Err why) in unanswered (reading r (submits speech desk kept u.out u.dialog))) old kept e new
   ended_why S why r desk kept d e old new awaits none t =
@@ -733,15 +733,15 @@ module _ {D : Type 0} (speech : Speech D) where
       (reread IsNone S r (ends {D = D} [] kept) old kept e new refl (none_read_so S r none) t)
 
   -- no memory was found for the texts of a unit
-  pub textless_turn : (S : List JournalRecord → Counts → Type 0) (at : ℕ) (kept : Kept) (bodies : List Body) (d e : D) (old new : Reply) → speech.takes_texts d ≡ true
-      → S [] none_counted → ReadsStarved speech kept d old e new
+  pub textless_turn : (S : List JournalRecord → TurnCounts → Type 0) (at : ℕ) (kept : Kept) (bodies : List Body) (d e : D) (old new : Reply) → speech.takes_texts d ≡ true
+      → S [] none_counted → ReadsOutOfMemory speech kept d old e new
       → (h : Hindrance) × Takes S (under h at kept (λ desk. followed speech desk kept (Read bodies) d)) old kept e new
   textless_turn S at kept bodies d e old new awaits seals (inl t) =
       (Textless, told_why S NoneForTexts none_read (without_texts (service at kept)) kept d e old new awaits seals t)
   textless_turn S at kept bodies d e old new awaits seals (inr t) = (Unheard, lifted S (lost {D = D} kept) old kept e new t seals)
 
   -- where a record has one of the texts, what comes of a service that could not read them
-  unread_due : (S : List JournalRecord → Counts → Type 0) (why : ReadFault) (desk : Service) (kept : Kept) (bodies : List Body) (d e : D) (old new : Reply) → some_recorded kept bodies ≡ true
+  unread_due : (S : List JournalRecord → TurnCounts → Type 0) (why : ReadFault) (desk : Service) (kept : Kept) (bodies : List Body) (d e : D) (old new : Reply) → some_recorded kept bodies ≡ true
       → Takes S (let u = speech.heard d (Err why) in reading failed_once (submits speech desk kept u.out u.dialog)) old kept e new
       → Takes S (let u = speech.heard d (cond (some_recorded kept bodies) (Err why) (Ok (texts_kept kept bodies))) in
       reading (cond (some_recorded kept bodies) failed_once none_read) (submits speech desk kept u.out u.dialog)) old kept e new
@@ -750,7 +750,7 @@ module _ {D : Type 0} (speech : Speech D) where
       (sym due) t
 
   -- the same where nothing is told of it
-  ended_due : (S : List JournalRecord → Counts → Type 0) (why : ReadFault) (desk : Service) (kept : Kept) (bodies : List Body) (d e : D) (old new : Reply) → some_recorded kept bodies ≡ true
+  ended_due : (S : List JournalRecord → TurnCounts → Type 0) (why : ReadFault) (desk : Service) (kept : Kept) (bodies : List Body) (d e : D) (old new : Reply) → some_recorded kept bodies ≡ true
       → Takes S (let u = speech.heard d (Err why) in unanswered (reading failed_once (submits speech desk kept u.out u.dialog))) old kept e new
       → Takes S (let u = speech.heard d (cond (some_recorded kept bodies) (Err why) (Ok (texts_kept kept bodies))) in
       unanswered (reading (cond (some_recorded kept bodies) failed_once none_read) (submits speech desk kept u.out u.dialog))) old kept e new
@@ -759,7 +759,7 @@ module _ {D : Type 0} (speech : Speech D) where
       (sym due) t
 
   -- the texts of a unit were not read: where the disk is why, a record has one of them
-  pub unread_turn : (S : List JournalRecord → Counts → Type 0) (at : ℕ) (kept : Kept) (bodies : List Body) (why : ReadFault) (d e : D) (old new : Reply) → speech.takes_texts d ≡ true
+  pub unread_turn : (S : List JournalRecord → TurnCounts → Type 0) (at : ℕ) (kept : Kept) (bodies : List Body) (why : ReadFault) (d e : D) (old new : Reply) → speech.takes_texts d ≡ true
       → (why ≡ NotRead → some_recorded kept bodies ≡ true) → S [] (read_so (reads_of why)) → ReadsNone speech why kept d old e new
       → (h : Hindrance) × Takes S (under h at kept (λ desk. followed speech desk kept (Read bodies) d)) old kept e new
   unread_turn S at kept bodies NoneForTexts d e old new awaits due seals (inl t) = textless_turn S at kept bodies d e old new awaits seals (inl t)

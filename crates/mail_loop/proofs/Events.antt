@@ -15,11 +15,11 @@ use Rattle.mail_loop.specs.declared.reply.Turned.{Turned}
 use Rattle.mail_loop.specs.ConsoleTurn.{AreSaid}
 use Rattle.store_kept.specs.Kept.{Kept, snapshotted}
 use Rattle.verb_bytes.specs.declared.journal.JournalRecord.{JournalRecord}
-use Rattle.mail_loop.specs.Counts.{Counts, both_counted, none_counted, wanting}
+use Rattle.mail_loop.specs.TurnCounts.{TurnCounts, both_counted, none_counted, wanting}
 use Rattle.desk_journal.specs.Records.{snapshot_record}
 use Rattle.mail_loop.specs.State.{Seat, Seats, State}
 use Rattle.mail_loop.specs.Hindrance.{Hindrance}
-use Rattle.mail_loop.specs.Machine.{Delivery, Keeping, IsKept, IsPassed, IsUnkept, IsStarved, Outcome, told_others, ignored, unfed, with_reply, Hindrances, Reply, Answered, answered, answers, hears_at, seat_at, seated, after_reply, delivered, happens, is_end, is_snapshot_due, outcome, unwritten_by, with_snapshot}
+use Rattle.mail_loop.specs.Machine.{Delivery, Keeping, IsKept, IsPassed, IsUnkept, IsOutOfMemory, Outcome, told_others, ignored, unfed, with_reply, Hindrances, Reply, Answered, answered, answers, hears_at, seat_at, seated, after_reply, delivered, happens, is_end, is_snapshot_due, outcome, unwritten_by, with_snapshot}
 use Rattle.mail_loop.specs.Stands.{reply_of}
 use Rattle.mail_loop.specs.Took.{seat_left}
 use Rattle.mail_loop.specs.Did.{AreLicensed, Sends, Leads, Answers, kept_by, unclosed_by, unkept_by}
@@ -29,7 +29,7 @@ use Rattle.mail_loop.proofs.Seats.{remove_set}
 use Rattle.mail_loop.proofs.Stretch.{HeardAlone}
 
 -- bytes for a connection that is not open
-pub bytes_ignored : {T : Type 0} → (S : List JournalRecord → Counts → Type 0) (conn at : ℕ) (kept : Kept) (es es' : Seats) (bytes : List ℕ) (view : T → List Reply) (stops : T → Bool) (answer : T)
+pub bytes_ignored : {T : Type 0} → (S : List JournalRecord → TurnCounts → Type 0) (conn at : ℕ) (kept : Kept) (es es' : Seats) (bytes : List ℕ) (view : T → List Reply) (stops : T → Bool) (answer : T)
     → None ≡ lookup (is_at (nat_cmp conn)) es → es' ≡ es → view answer ≡ [] → stops answer ≡ false → S [] none_counted
     → (b : Bool) × (hs : List Hindrance) × (stage : Stage)
     × Answers S (hears_at (seat_at conn es) b hs stage at (record { kept = kept; seats = es }) conn bytes) kept es' view stops (Ok answer)
@@ -50,18 +50,18 @@ seats_after conn es lent es' seat true wrote kept =
     kept ∙ ap (remove_entry test) wrote ∙ remove_set test es seat
 
 -- memory was wanted before bytes were served
-pub bytes_unserved : {T : Type 0} → (S : List JournalRecord → Counts → Type 0) (conn at : ℕ) (kept : Kept) (es : Seats) (bytes : List ℕ) (view : T → List Reply) (stops : T → Bool)
+pub bytes_unserved : {T : Type 0} → (S : List JournalRecord → TurnCounts → Type 0) (conn at : ℕ) (kept : Kept) (es : Seats) (bytes : List ℕ) (view : T → List Reply) (stops : T → Bool)
     (w : WantOfMemory) (result : Result T WantOfMemory) → result ≡ Err w → S [] none_counted
     → (b : Bool) × (hs : List Hindrance) × (stage : Stage)
     × Answers S (hears_at (seat_at conn es) b hs stage at (record { kept = kept; seats = es }) conn bytes) kept es view stops result
-bytes_unserved {T} S conn at kept es bytes view stops w result starved seals = (true, [], Ok None, by_seat (seat_at conn es))
+bytes_unserved {T} S conn at kept es bytes view stops w result out_of_memory seals = (true, [], Ok None, by_seat (seat_at conn es))
   where
     by_seat : (o : Option Seat) → Answers S (hears_at o true [] (Ok None) at (record { kept = kept; seats = es }) conn bytes) kept es view stops result
-    by_seat None = subst (λ (r : Result T WantOfMemory). Answers S (ignored (record { kept = kept; seats = es })) kept es view stops r) (sym starved) ((refl, refl, refl), seals, tt)
-    by_seat (Some seat) = subst (λ (r : Result T WantOfMemory). Answers S (unfed conn (record { kept = kept; seats = es })) kept es view stops r) (sym starved) ((refl, refl, refl), seals, tt)
+    by_seat None = subst (λ (r : Result T WantOfMemory). Answers S (ignored (record { kept = kept; seats = es })) kept es view stops r) (sym out_of_memory) ((refl, refl, refl), seals, tt)
+    by_seat (Some seat) = subst (λ (r : Result T WantOfMemory). Answers S (unfed conn (record { kept = kept; seats = es })) kept es view stops r) (sym out_of_memory) ((refl, refl, refl), seals, tt)
 
 -- bytes for an open connection
-pub bytes_heard : {T : Type 0} → (S : List JournalRecord → Counts → Type 0) (conn at : ℕ) (kept kept' : Kept) (es lent es' : Seats) (s s' : Seat) (bytes : List ℕ) (turned : Turned)
+pub bytes_heard : {T : Type 0} → (S : List JournalRecord → TurnCounts → Type 0) (conn at : ℕ) (kept kept' : Kept) (es lent es' : Seats) (s s' : Seat) (bytes : List ℕ) (turned : Turned)
     (view : T → List Reply) (stops : T → Bool) (answer : T)
     → Some s ≡ lookup (is_at (nat_cmp conn)) es
     → lent ≡ set_value (is_at (nat_cmp conn)) es s'
@@ -85,7 +85,7 @@ bytes_heard S conn at kept kept' es lent es' s s' bytes turned view stops answer
     )
 
 -- strings after which serving goes on
-pub going_answers : {T U : Type 0} → (S : List JournalRecord → Counts → Type 0) (a : Answered) (kept : Kept) (seats : Seats) (view : T → List Reply) (of : U → T) (stops : U → Bool)
+pub going_answers : {T U : Type 0} → (S : List JournalRecord → TurnCounts → Type 0) (a : Answered) (kept : Kept) (seats : Seats) (view : T → List Reply) (of : U → T) (stops : U → Bool)
     (letters : Result T WantOfMemory) (result : Result U WantOfMemory)
     → IfOk result (λ u. (letters ≡ Ok (of u)) × (stops u ≡ false)) → IfErr result (λ e. letters ≡ Err e)
     → Answers S a kept seats view (λ _. false) letters → Answers S a kept seats (λ u. view (of u)) stops result
@@ -95,17 +95,17 @@ going_answers {T} S a kept seats view of stops letters (Err e) ok err answers =
     let x = subst (λ (l : Result T WantOfMemory). Answers S a kept seats view (λ _. false) l) err answers in (x.0, x.1, x.2)
 
 -- memory was wanted before a string was sent
-pub leads_starved : (S : List JournalRecord → Counts → Type 0) (W : Hindrances → Type 0) (told : LinkTold) (s : State) (event : Event) (b : Bool) (hs : List Hindrance) (stage : Stage) (kept : Kept) (seats : Seats) (w : WantOfMemory) (result : Result Bool WantOfMemory)
+pub leads_out_of_memory : (S : List JournalRecord → TurnCounts → Type 0) (W : Hindrances → Type 0) (told : LinkTold) (s : State) (event : Event) (b : Bool) (hs : List Hindrance) (stage : Stage) (kept : Kept) (seats : Seats) (w : WantOfMemory) (result : Result Bool WantOfMemory)
     → result ≡ Err w → kept ≡ (answered b hs stage s event).state.kept → (answered b hs stage s event).unsealed ≡ [] → (answered b hs stage s event).counts ≡ none_counted → kept ≡ s.kept
     → S (answered b hs stage s event).unsealed (answered b hs stage s event).counts → AreSaid (answered b hs stage s event).consoles.readings
     → ((ds : List Delivery) → W (record { unfed = b; turns = hs; stage = stage; deliveries = ds; keeping = IsPassed }))
     → (h : Hindrances) × (unclosed : ℕ) × AreLicensed h.deliveries unclosed told told × Leads S unclosed h.keeping s.kept (happens h s event) told told kept seats result × W h
-leads_starved S W told s event b hs stage kept seats w result starved same none quiet undone seals said goes =
+leads_out_of_memory S W told s event b hs stage kept seats w result out_of_memory same none quiet undone seals said goes =
     let h : Hindrances = record { unfed = b; turns = hs; stage = stage; deliveries = []; keeping = IsPassed } in (
       h,
       0,
       none_licensed told told refl refl,
-      subst (λ (r : Result Bool WantOfMemory). Leads S 0 IsPassed s.kept (happens h s event) told told kept seats r) (sym starved) (record {
+      subst (λ (r : Result Bool WantOfMemory). Leads S 0 IsPassed s.kept (happens h s event) told told kept seats r) (sym out_of_memory) (record {
         did = record { notes = []; goes = goes_none told; whole = ((happens h s event).notes, refl, inl (refl, refl, none, quiet, sym same ∙ undone)) };
         kept_is = same;
         seats_are = tt;
@@ -124,21 +124,21 @@ abbrev snapped : Keeping → Bool → Outcome → Outcome
 snapped IsKept true o = record o { state = record { kept = snapshotted o.state.kept; seats = o.state.seats } }
 snapped IsPassed true o = o
 snapped IsUnkept true o = record o { unsealed = snapshot_record o.state.kept ∷ [] }
-snapped IsStarved true o = record o { counts = both_counted o.counts (wanting 1) }
+snapped IsOutOfMemory true o = record o { counts = both_counted o.counts (wanting 1) }
 snapped k false o = o
 
 snapped_is : (k : Keeping) (o : Outcome) (due : Bool) → is_snapshot_due o ≡ due → with_snapshot k o ≡ snapped k due o
 snapped_is IsKept o true e = rw e refl
 snapped_is IsPassed o true e = refl
 snapped_is IsUnkept o true e = rw e refl
-snapped_is IsStarved o true e = rw e refl
+snapped_is IsOutOfMemory o true e = rw e refl
 snapped_is IsKept o false e = rw e refl
 snapped_is IsPassed o false e = refl
 snapped_is IsUnkept o false e = rw e refl
-snapped_is IsStarved o false e = rw e refl
+snapped_is IsOutOfMemory o false e = rw e refl
 
 -- an event led to this before its snapshot, and to this with it
-leads_snapped : (S T : List JournalRecord → Counts → Type 0) (n : ℕ) (before : Kept) (o : Outcome) (old new : LinkTold) (mid after : Kept) (seats : Seats) (stops : Bool) (k : Keeping) (due : Bool)
+leads_snapped : (S T : List JournalRecord → TurnCounts → Type 0) (n : ℕ) (before : Kept) (o : Outcome) (old new : LinkTold) (mid after : Kept) (seats : Seats) (stops : Bool) (k : Keeping) (due : Bool)
     → Leads T n IsPassed before o old new mid seats (Ok stops) → after ≡ (if due then kept_by k mid else mid) → S (if due then unkept_by k mid else o.unsealed) (if due then both_counted o.counts (wanting (unwritten_by k)) else o.counts)
     → (due ≡ true → o.unsealed ≡ []) → Leads S n k before (snapped k due o) old new after seats (Ok stops)
 leads_snapped S T n before o old new mid after seats stops IsKept true l kept seals none = record {
@@ -147,7 +147,7 @@ leads_snapped S T n before o old new mid after seats stops IsKept true l kept se
   seats_are = l.seats_are;
   closed = l.closed;
   passed = tt;
-  seals = subst (λ (u : List JournalRecord). S u o.counts) (sym (none refl)) (subst (λ (c : Counts). S [] c) (none_before o.counts) seals);
+  seals = subst (λ (u : List JournalRecord). S u o.counts) (sym (none refl)) (subst (λ (c : TurnCounts). S [] c) (none_before o.counts) seals);
   read = l.read;
 }
 leads_snapped S T n before o old new mid after seats stops IsPassed true l kept seals none = record {
@@ -156,7 +156,7 @@ leads_snapped S T n before o old new mid after seats stops IsPassed true l kept 
   seats_are = l.seats_are;
   closed = l.closed;
   passed = tt;
-  seals = subst (λ (u : List JournalRecord). S u o.counts) (sym (none refl)) (subst (λ (c : Counts). S [] c) (none_before o.counts) seals);
+  seals = subst (λ (u : List JournalRecord). S u o.counts) (sym (none refl)) (subst (λ (c : TurnCounts). S [] c) (none_before o.counts) seals);
   read = l.read;
 }
 leads_snapped S T n before o old new mid after seats stops IsUnkept true l kept seals none = record {
@@ -165,10 +165,10 @@ leads_snapped S T n before o old new mid after seats stops IsUnkept true l kept 
   seats_are = l.seats_are;
   closed = l.closed;
   passed = tt;
-  seals = subst (λ (q : Kept). S (snapshot_record q ∷ []) o.counts) l.kept_is (subst (λ (c : Counts). S (snapshot_record mid ∷ []) c) (none_before o.counts) seals);
+  seals = subst (λ (q : Kept). S (snapshot_record q ∷ []) o.counts) l.kept_is (subst (λ (c : TurnCounts). S (snapshot_record mid ∷ []) c) (none_before o.counts) seals);
   read = l.read;
 }
-leads_snapped S T n before o old new mid after seats stops IsStarved true l kept seals none = record {
+leads_snapped S T n before o old new mid after seats stops IsOutOfMemory true l kept seals none = record {
   did = record { notes = l.did.notes; goes = l.did.goes; whole = l.did.whole };
   kept_is = kept ∙ l.kept_is;
   seats_are = l.seats_are;
@@ -192,7 +192,7 @@ empty_none [] t e = refl
 empty_none (x ∷ xs) t e = absurd (let wrong : false ≡ true = e in cc)
 
 -- an event was answered, its strings were sent, and the snapshot that is due was taken or not
-pub leads_on : (S T : List JournalRecord → Counts → Type 0) (W : Hindrances → Type 0) (old new : LinkTold) (s : State) (event : Event) (b : Bool) (hs : List Hindrance) (stage : Stage) (mid after : Kept) (seats' : Seats) (stops : Bool)
+pub leads_on : (S T : List JournalRecord → TurnCounts → Type 0) (W : Hindrances → Type 0) (old new : LinkTold) (s : State) (event : Event) (b : Bool) (hs : List Hindrance) (stage : Stage) (mid after : Kept) (seats' : Seats) (stops : Bool)
     (k : Keeping) (due : Bool)
     → (ds : List Delivery) × AreLicensed ds 0 old new
     × Leads T 0 IsPassed s.kept (outcome (answered b hs stage s event) (delivered ds (answered b hs stage s event).state.seats (answered b hs stage s event).replies)) old new mid seats' (Ok stops)
@@ -229,7 +229,7 @@ end_ignored s event = by_what event.what
     by_what Idle e = absurd (let wrong : false ≡ true = e in cc)
 
 -- the end came, and the snapshot that is due was taken or not
-pub leads_end : (S T : List JournalRecord → Counts → Type 0) (W : Hindrances → Type 0) (told : LinkTold) (s : State) (event : Event) (after : Kept) (k : Keeping) (due : Bool)
+pub leads_end : (S T : List JournalRecord → TurnCounts → Type 0) (W : Hindrances → Type 0) (told : LinkTold) (s : State) (event : Event) (after : Kept) (k : Keeping) (due : Bool)
     → is_end event.what ≡ true → nat_le 1024 s.kept.marks.since ≡ due → after ≡ (if due then kept_by k s.kept else s.kept)
     → S (if due then unkept_by k s.kept else []) (if due then wanting (unwritten_by k) else none_counted) → T [] none_counted
     → ((ds : List Delivery) → W (record { unfed = false; turns = []; stage = Ok None; deliveries = ds; keeping = k }))
@@ -252,14 +252,14 @@ leads_end S T W told s event after k due ends is_due kept seals none goes =
     (subst (λ (a : Answered). (is_empty a.unsealed && nat_le 1024 a.state.kept.marks.since) ≡ due) is is_due)
     kept
     (subst (λ (a : Answered). S (if due then unkept_by k s.kept else a.unsealed) (if due then both_counted a.counts (wanting (unwritten_by k)) else a.counts)) is
-    (subst (λ (c : Counts). S (if due then unkept_by k s.kept else []) c)
+    (subst (λ (c : TurnCounts). S (if due then unkept_by k s.kept else []) c)
     (sym (no_more (if due then wanting (unwritten_by k) else none_counted)) ∙ added_if due none_counted (unwritten_by k)) seals))
     goes
 
 -- ---- strings
 
 -- an event was answered, and its strings were sent
-pub leads_by : (S : List JournalRecord → Counts → Type 0) (old new : LinkTold) (s : State) (event : Event) (b : Bool) (hs : List Hindrance) (stage : Stage) (kept : Kept) (seats seats' : Seats) (rs : List Reply)
+pub leads_by : (S : List JournalRecord → TurnCounts → Type 0) (old new : LinkTold) (s : State) (event : Event) (b : Bool) (hs : List Hindrance) (stage : Stage) (kept : Kept) (seats seats' : Seats) (rs : List Reply)
     (stops : Bool) (sent : Result (Unit {0}) WantOfMemory) (x : Unit {0})
     → kept ≡ (answered b hs stage s event).state.kept → seats ≡ (answered b hs stage s event).state.seats → rs ≡ (answered b hs stage s event).replies
     → stops ≡ (answered b hs stage s event).consoles.stops
@@ -286,7 +286,7 @@ leads_by S old new s event b hs stage kept seats seats' rs stops sent x same ope
     )
 
 -- an event was answered, and memory was wanted for its strings
-pub leads_cut : (S : List JournalRecord → Counts → Type 0) (W : Hindrances → Type 0) (old new : LinkTold) (s : State) (event : Event) (b : Bool) (hs : List Hindrance) (stage : Stage) (kept : Kept) (seats seats' : Seats) (rs : List Reply)
+pub leads_cut : (S : List JournalRecord → TurnCounts → Type 0) (W : Hindrances → Type 0) (old new : LinkTold) (s : State) (event : Event) (b : Bool) (hs : List Hindrance) (stage : Stage) (kept : Kept) (seats seats' : Seats) (rs : List Reply)
     (sent : Result (Unit {0}) WantOfMemory) (w v : WantOfMemory)
     → kept ≡ (answered b hs stage s event).state.kept → seats ≡ (answered b hs stage s event).state.seats → rs ≡ (answered b hs stage s event).replies
     → (ds : List Delivery) × AreLicensed ds (unclosed_by sent) old new × Sends (delivered ds seats rs) old new seats' sent → sent ≡ Err w

@@ -16,13 +16,13 @@ use Rattle.imap_session.specs.Dialog as session
 use Rattle.imap_session.specs.Words.{unread_text}
 use Rattle.store_kept.specs.Kept.{Kept, store_of}
 use Rattle.verb_bytes.specs.declared.journal.JournalRecord.{JournalRecord}
-use Rattle.mail_loop.specs.Counts.{Counts}
+use Rattle.mail_loop.specs.TurnCounts.{TurnCounts}
 use Rattle.mail_loop.specs.declared.reply.Reply.{Reply}
 use Rattle.mail_loop.specs.State.{Seats, beside}
 use Rattle.mail_loop.specs.Turn.{Turn, ends, says}
 use Rattle.mail_loop.specs.Session.{Took, followed, size_in, hindered}
 use Rattle.mail_loop.specs.Hindrance.{Hindrance, Clear, Unheard, under}
-use Rattle.mail_loop.specs.ImapTurn.{imap_session, imap_speech, of_imap, starved_command, took_by}
+use Rattle.mail_loop.specs.ImapTurn.{imap_session, imap_speech, of_imap, out_of_memory_command, took_by}
 use Rattle.mail_loop.specs.Took.{IsNone, Takes}
 use Rattle.mail_loop.specs.ImapTook.{IsAnswered, obeyed, obeyed_under}
 use Rattle.mail_loop.proofs.Units.{or_told}
@@ -47,12 +47,12 @@ answered_turn said (Ok text) kept d d' old new f h same clear lost (stays, inr e
 answered_turn said (Err w) kept d d' old new f h same clear lost e =
     (Unheard, subst (λ (t : Turn Dialog). Takes IsNone t old kept d' new) (sym lost) (closed kept kept d' old new refl e))
 
-pub command_turn : (S : List JournalRecord → Counts → Type 0) (at : ℕ) (kept kept' : Kept) (command : ImapCommand) (out : ImapOut) (d e e' : Dialog) (old new : Reply)
+pub command_turn : (S : List JournalRecord → TurnCounts → Type 0) (at : ℕ) (kept kept' : Kept) (command : ImapCommand) (out : ImapOut) (d e e' : Dialog) (old new : Reply)
     → session.turn kept.house (store_of kept) (size_in kept) kept.deep d command ≡ session.took out e
     → (h : Hindrance) × Takes S (under h at kept (λ desk. followed imap_speech desk kept (of_imap out) e)) old kept' e' new
     → (h : Hindrance) × Takes S (obeyed_under h at kept d (Ok command)) old kept' e' new
 command_turn S at kept kept' command out d e e' old new is (h, t) =
-    or_told (λ (u : Turn Dialog). Takes S u old kept' e' new) (starved_command kept d (Ok command)) at kept (λ desk. obeyed desk kept d (Ok command)) h
+    or_told (λ (u : Turn Dialog). Takes S u old kept' e' new) (out_of_memory_command kept d (Ok command)) at kept (λ desk. obeyed desk kept d (Ok command)) h
     (subst (λ (u : Took Dialog). Takes S (under h at kept (λ desk. followed imap_speech desk kept u.out u.dialog)) old kept' e' new) (sym (ap took_by is)) t)
 
 -- the refusal of lines, where it is no want of memory
@@ -64,14 +64,14 @@ refusal_turn at kept d d' reading why text old new is same answered =
     (answered_turn (unread_text why) text kept d d' old new (λ h. obeyed_under h at kept d (Err why)) Clear same refl refl answered)
 
 -- a command as it stands in the stream
-pub raw_turn : (S : List JournalRecord → Counts → Type 0) (at : ℕ) (kept kept' : Kept) (next : Next) (raw : RawCommand) (d d' : Dialog) (old new : Reply) → next ≡ Command raw
+pub raw_turn : (S : List JournalRecord → TurnCounts → Type 0) (at : ℕ) (kept kept' : Kept) (next : Next) (raw : RawCommand) (d d' : Dialog) (old new : Reply) → next ≡ Command raw
     → (h : Hindrance) × Takes S (obeyed_under h at kept d (command_of raw)) old kept' d' new
     → (h : Hindrance) × ((others : Seats) → Takes S (hindered imap_session h at kept others d next) old kept' d' new)
 raw_turn S at kept kept' next raw d d' old new is (h, t) =
     (h, λ others. subst (λ (n : Next). Takes S (hindered imap_session h at kept others d n) old kept' d' new) (sym is) t)
 
 -- a turn that no other connection hinders
-pub whatever_others : (S : List JournalRecord → Counts → Type 0) (at : ℕ) (kept kept' : Kept) (next : Next) (d d' : Dialog) (old new : Reply)
+pub whatever_others : (S : List JournalRecord → TurnCounts → Type 0) (at : ℕ) (kept kept' : Kept) (next : Next) (d d' : Dialog) (old new : Reply)
     → (h : Hindrance) × Takes S (hindered imap_session h at kept [] d next) old kept' d' new
     → (h : Hindrance) × ((others : Seats) → Takes S (hindered imap_session h at kept others d next) old kept' d' new)
 whatever_others S at kept kept' next d d' old new (h, t) = (h, λ others. t)

@@ -6,7 +6,7 @@ use Rattle.std.specs.Ordering.{nat_cmp}
 use Rattle.undo_base.specs.declared.memory.NoMemory.{NoMemory as WantOfMemory}
 use Rattle.verb_core.specs.declared.conf.House.{House}
 use Rattle.store_kept.specs.Kept.{Kept}
-use Rattle.mail_loop.specs.Counts.{none_counted}
+use Rattle.mail_loop.specs.TurnCounts.{none_counted}
 use Rattle.undo_outside.specs.declared.event.Role.{Role}
 use Rattle.undo_outside.specs.declared.event.Role.TheVariants as role
 use Rattle.mail_loop.specs.State.{Seat, Seats, State}
@@ -60,6 +60,6 @@ left_ungreeted {T} a kept es conn reply view (Err e) is none one =
     subst (λ (x : Answered). Answers IsNone x kept es view (λ _. false) (Err e)) (sym is) ((refl, refl, refl), (refl, refl), tt)
 
 -- of a role that greets
-pub starved_greeting : (s : State) (conn : ℕ) (seat : Seat) (greeting : Option (List ℕ)) → is_some greeting ≡ true → admitted true s conn seat greeting ≡ ungreeted s conn
-starved_greeting s conn seat (Some text) is = refl
-starved_greeting s conn seat None wrong = absurd (let w : false ≡ true = wrong in cc)
+pub out_of_memory_greeting : (s : State) (conn : ℕ) (seat : Seat) (greeting : Option (List ℕ)) → is_some greeting ≡ true → admitted true s conn seat greeting ≡ ungreeted s conn
+out_of_memory_greeting s conn seat (Some text) is = refl
+out_of_memory_greeting s conn seat None wrong = absurd (let w : false ≡ true = wrong in cc)

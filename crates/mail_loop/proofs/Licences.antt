@@ -21,14 +21,14 @@ use Rattle.imap_session.specs.declared.dialog.Dialog.{Dialog as ImapDialog}
 use Rattle.pop_session.specs.declared.dialog.Dialog.{Dialog as PopDialog}
 use Rattle.store_kept.specs.Kept.{Kept, store_of}
 use Rattle.desk_journal.specs.Reading.{Reads, failed_once, none_read, wrong_once}
-use Rattle.mail_loop.specs.Counts.{Counts, none_counted}
+use Rattle.mail_loop.specs.TurnCounts.{TurnCounts, none_counted}
 use Rattle.mail_loop.specs.declared.out.Out.{Out}
 use Rattle.mail_loop.specs.declared.out.Out.TheVariants.{Say, Read, Submit, Bye}
 use Rattle.mail_loop.specs.State.{Seats}
 use Rattle.mail_loop.specs.Turn.{Turn, lost, says}
 use Rattle.mail_loop.specs.Asked.{Asked, unsealed_as}
 use Rattle.mail_loop.specs.Session.{Session, Speech, IsLicensedRow, done, followed, pursued_as, served, submits}
-use Rattle.mail_loop.specs.Hindrance.{Hindrance, Clear, Refused, Textless, Unread, UnreadRefused, UnreadUnheard, Misread, Misled, Unstored, Unheard, Unanswered, Unsealed, Untold, Unwritten, UnwrittenUnheard, Halfway, IsLicensed, Licence, Row, Service, WrongRead, halfway, is_failed_write, is_starved_write, last_hindrance, misread, row, service, some_recorded, stopped, under, unread, unread_for, unread_unsaid, without_items, without_seals, without_texts, without_writes}
+use Rattle.mail_loop.specs.Hindrance.{Hindrance, Clear, Refused, Textless, Unread, UnreadRefused, UnreadUnheard, Misread, Misled, Unstored, Unheard, Unanswered, Unsealed, Untold, Unwritten, UnwrittenUnheard, Halfway, IsLicensed, Licence, Row, Service, WrongRead, halfway, is_failed_write, is_out_of_memory_write, last_hindrance, misread, row, service, some_recorded, stopped, under, unread, unread_for, unread_unsaid, without_items, without_seals, without_texts, without_writes}
 use Rattle.mail_loop.specs.SmtpTurn.{memory_told, smtp_session}
 use Rattle.mail_loop.specs.ImapTurn.{imap_session}
 use Rattle.mail_loop.specs.PopTurn.{pop_session}
@@ -64,10 +64,10 @@ writes_none h at kept told turn none at' kept' told' turn' = ap (λ (l : List Li
 
 -- nor does a write that found no memory
 abbrev WantsNone : (D : Type 0) → Hindrance → Type 0
-WantsNone D h = (at : ℕ) (kept : Kept) (told : Turn D) (turn : Service → Turn D) → list_any is_starved_write (row h at kept told turn).licence ≡ false
+WantsNone D h = (at : ℕ) (kept : Kept) (told : Turn D) (turn : Service → Turn D) → list_any is_out_of_memory_write (row h at kept told turn).licence ≡ false
 
-wants_none : {D : Type 0} → (h : Hindrance) (at : ℕ) (kept : Kept) (told : Turn D) (turn : Service → Turn D) → list_any is_starved_write (row h at kept told turn).licence ≡ false → WantsNone D h
-wants_none h at kept told turn none at' kept' told' turn' = ap (λ (l : List Licence). list_any is_starved_write l) (same_licence h at' at kept' kept told' told turn' turn) ∙ none
+wants_none : {D : Type 0} → (h : Hindrance) (at : ℕ) (kept : Kept) (told : Turn D) (turn : Service → Turn D) → list_any is_out_of_memory_write (row h at kept told turn).licence ≡ false → WantsNone D h
+wants_none h at kept told turn none at' kept' told' turn' = ap (λ (l : List Licence). list_any is_out_of_memory_write l) (same_licence h at' at kept' kept told' told turn' turn) ∙ none
 
 -- what hinders a further ask is a hindrance itself, or none
 by_last : (P : Hindrance → Type 0) (h : Hindrance) → P h → P Clear → P (last_hindrance h)
@@ -94,10 +94,10 @@ Seals D desk = ((by : Option User) (ask : Ask) → (desk.asked by ask).unsealed 
 
 -- a desk whose writes find memory for what it is asked, and for what is asked further
 abbrev Feeds : (D : Type 0) → Service → Type 0
-Feeds D desk = ((by : Option User) (ask : Ask) → (desk.asked by ask).starved ≡ 0) × WantsNone D desk.further
+Feeds D desk = ((by : Option User) (ask : Ask) → (desk.asked by ask).out_of_memory ≡ 0) × WantsNone D desk.further
 
 -- it does also where it seals nothing
-unsealed_fed : (kept : Kept) (due : Result Item WhyRefused) → (unsealed_as kept due).starved ≡ 0
+unsealed_fed : (kept : Kept) (due : Result Item WhyRefused) → (unsealed_as kept due).out_of_memory ≡ 0
 unsealed_fed kept (Ok item) = refl
 unsealed_fed kept (Err why) = refl
 
@@ -109,20 +109,20 @@ ReadsAs desk r = (r ≡ none_read) ⊎ ((bodies : List Body) × (r ≡ desk.read
 -- service says.
 record IsFair {D : Type 0} (turn : Service → Turn D) : Type 0 where
   seals : (desk : Service) → Seals D desk → (turn desk).unsealed ≡ []
-  feeds : (desk : Service) → Feeds D desk → (turn desk).counts.starved ≡ 0
+  feeds : (desk : Service) → Feeds D desk → (turn desk).counts.out_of_memory ≡ 0
   reads : (desk : Service) → ReadsAs desk (turn desk).counts.reads
 
 -- The same of a turn that was given another text, or read none.
 record IsGiven {D : Type 0} (turn : Service → Turn D) : Type 0 where
   seals : (desk : Service) → Seals D desk → (turn desk).unsealed ≡ []
-  feeds : (desk : Service) → Feeds D desk → (turn desk).counts.starved ≡ 0
+  feeds : (desk : Service) → Feeds D desk → (turn desk).counts.out_of_memory ≡ 0
   reads : (desk : Service) → ((turn desk).counts.reads ≡ none_read) ⊎ ((turn desk).counts.reads ≡ wrong_once)
 
 -- what such a turn says is licensed but for the other text
 record IsGivenRow {D : Type 0} (r : Row D) : Type 0 where
   writes : list_any is_failed_write r.licence ≡ false → r.follows.unsealed ≡ []
   reads : r.follows.counts.reads.failed ≡ 0
-  starved : list_any is_starved_write r.licence ≡ false → r.follows.counts.starved ≡ 0
+  out_of_memory : list_any is_out_of_memory_write r.licence ≡ false → r.follows.counts.out_of_memory ≡ 0
 
 -- a service reads all
 either_none : (desk : Service) → ((bodies : List Body) → desk.reads bodies ≡ none_read) → (r : Reads) → ReadsAs desk r → r ≡ none_read
@@ -161,9 +161,9 @@ some [] = false
 some (x ∷ xs) = true
 
 -- nothing is said of a disk
-quiet_row : {D : Type 0} → (clear : Turn D) (r : Row D) → (r.licence ≡ [] → r.follows ≡ clear) → r.follows.unsealed ≡ [] → r.follows.counts.reads ≡ none_read → r.follows.counts.starved ≡ 0 → IsLicensed clear r
-quiet_row clear r goes sealed read fed =
-    record { goes = goes; writes = λ none. sealed; reads = λ none. ap (λ (q : Reads). q.failed) read; wrong = λ none. ap (λ (q : Reads). q.wrong) read; starved = λ none. fed }
+quiet_row : {D : Type 0} → (clear : Turn D) (r : Row D) → (r.licence ≡ [] → r.follows ≡ clear) → r.follows.unsealed ≡ [] → r.follows.counts.reads ≡ none_read → r.follows.counts.out_of_memory ≡ 0 → IsLicensed clear r
+quiet_row clear r goes sealed read finds_memory =
+    record { goes = goes; writes = λ none. sealed; reads = λ none. ap (λ (q : Reads). q.failed) read; wrong = λ none. ap (λ (q : Reads). q.wrong) read; out_of_memory = λ none. finds_memory }
 
 -- no licence at all
 none_licensed : {D : Type 0} → (h : Hindrance) (at : ℕ) (kept : Kept) (told : Turn D) (turn : Service → Turn D) → (row h at kept told turn).licence ≡ [] → last_hindrance h ≡ Clear
@@ -205,8 +205,8 @@ sealed_under UnwrittenUnheard at kept f none seals = seals (stopped (without_wri
 sealed_under (Halfway h) at kept f none seals = seals (halfway h (service at kept)) (λ by ask. refl)
 
 -- no write finds no memory but where that licenses it
-fed_under : {D : Type 0} → (h : Hindrance) (at : ℕ) (kept : Kept) (f : Service → Turn D) → list_any is_starved_write (row h at kept (lost kept) f).licence ≡ false
-    → ((desk : Service) → ((by : Option User) (ask : Ask) → (desk.asked by ask).starved ≡ 0) → (f desk).counts.starved ≡ 0) → (under h at kept f).counts.starved ≡ 0
+fed_under : {D : Type 0} → (h : Hindrance) (at : ℕ) (kept : Kept) (f : Service → Turn D) → list_any is_out_of_memory_write (row h at kept (lost kept) f).licence ≡ false
+    → ((desk : Service) → ((by : Option User) (ask : Ask) → (desk.asked by ask).out_of_memory ≡ 0) → (f desk).counts.out_of_memory ≡ 0) → (under h at kept f).counts.out_of_memory ≡ 0
 fed_under Clear at kept f none feeds = feeds (service at kept) (λ by ask. refl)
 fed_under Refused at kept f none feeds = refl
 fed_under Textless at kept f none feeds = feeds (without_texts (service at kept)) (λ by ask. refl)
@@ -249,16 +249,16 @@ module _ {D : Type 0} (speech : Speech D) (kept : Kept) where
   followed_sealed desk (Read bodies) d seals = let t = speech.heard d (desk.texts bodies) in submits_sealed desk t.out t.dialog seals
   followed_sealed desk (Submit asked) d seals = submits_sealed desk (Submit asked) d seals
 
-  pursued_fed : (desk : Service) (d : D) (a : Asked) (out : Out) (e : D) → a.starved ≡ 0 → WantsNone D desk.further → (pursued_as speech desk kept d a out e).counts.starved ≡ 0
-  pursued_fed desk d a (Say said) e fed none = fed
-  pursued_fed desk d a (Bye said) e fed none = fed
-  pursued_fed desk d a (Read bodies) e fed none = fed
-  pursued_fed desk d a (Submit asked) e fed none =
+  pursued_fed : (desk : Service) (d : D) (a : Asked) (out : Out) (e : D) → a.out_of_memory ≡ 0 → WantsNone D desk.further → (pursued_as speech desk kept d a out e).counts.out_of_memory ≡ 0
+  pursued_fed desk d a (Say said) e finds_memory none = finds_memory
+  pursued_fed desk d a (Bye said) e finds_memory none = finds_memory
+  pursued_fed desk d a (Read bodies) e finds_memory none = finds_memory
+  pursued_fed desk d a (Submit asked) e finds_memory none =
       let f : Service → Turn D = λ later. done speech a.kept e (later.asked (speech.user e) asked) in
-      ap {B = ℕ} (λ (n : ℕ). n + (under desk.further desk.at a.kept f).counts.starved) fed
+      ap {B = ℕ} (λ (n : ℕ). n + (under desk.further desk.at a.kept f).counts.out_of_memory) finds_memory
       ∙ ap {B = ℕ} (λ (n : ℕ). 0 + n) (fed_under desk.further desk.at a.kept f (none desk.at a.kept (lost a.kept) f) (λ later all. all (speech.user e) asked))
 
-  submits_fed : (desk : Service) (out : Out) (d : D) → Feeds D desk → (submits speech desk kept out d).counts.starved ≡ 0
+  submits_fed : (desk : Service) (out : Out) (d : D) → Feeds D desk → (submits speech desk kept out d).counts.out_of_memory ≡ 0
   submits_fed desk (Say said) d feeds = refl
   submits_fed desk (Bye said) d feeds = refl
   submits_fed desk (Read bodies) d feeds = refl
@@ -267,7 +267,7 @@ module _ {D : Type 0} (speech : Speech D) (kept : Kept) where
       let t = speech.settle (store_of a.kept) a.kept.stamps d a.outcome in
       pursued_fed desk d a t.out t.dialog (feeds.0 (speech.user d) asked) feeds.1
 
-  followed_fed : (desk : Service) (out : Out) (d : D) → Feeds D desk → (followed speech desk kept out d).counts.starved ≡ 0
+  followed_fed : (desk : Service) (out : Out) (d : D) → Feeds D desk → (followed speech desk kept out d).counts.out_of_memory ≡ 0
   followed_fed desk (Say said) d feeds = refl
   followed_fed desk (Bye said) d feeds = refl
   followed_fed desk (Read bodies) d feeds = let t = speech.heard d (desk.texts bodies) in submits_fed desk t.out t.dialog feeds
@@ -288,7 +288,7 @@ module _ {D : Type 0} (at : ℕ) (kept : Kept) where
   further_seals : (h : Hindrance) → list_any is_failed_write (row h at kept (lost {D = D} kept) (λ desk. lost kept)).licence ≡ false → WritesNone D (last_hindrance h)
   further_seals h none = by_last (λ (x : Hindrance). WritesNone D x) h (writes_none h at kept (lost {D = D} kept) (λ desk. lost kept) none) (λ at' kept' told turn. refl)
 
-  further_feeds : (h : Hindrance) → list_any is_starved_write (row h at kept (lost {D = D} kept) (λ desk. lost kept)).licence ≡ false → WantsNone D (last_hindrance h)
+  further_feeds : (h : Hindrance) → list_any is_out_of_memory_write (row h at kept (lost {D = D} kept) (λ desk. lost kept)).licence ≡ false → WantsNone D (last_hindrance h)
   further_feeds h none = by_last (λ (x : Hindrance). WantsNone D x) h (wants_none h at kept (lost {D = D} kept) (λ desk. lost kept) none) (λ at' kept' told turn. refl)
 
   all_fed : Feeds D (service at kept)
@@ -305,72 +305,72 @@ module _ {D : Type 0} (at : ℕ) (kept : Kept) where
 
   given_row : (h : Hindrance) (told : Turn D) (turn : Service → Turn D) → told.unsealed ≡ [] → told.counts ≡ none_counted → IsGiven turn → IsGivenRow (row h at kept told turn)
   given_row Clear told turn sealed read fair =
-      record { writes = λ none. fair.seals (service at kept) all_sealed; reads = none_failed (turn (service at kept)).counts.reads (fair.reads (service at kept)); starved = λ none. fair.feeds (service at kept) all_fed }
-  given_row Refused told turn sealed read fair = record { writes = λ none. sealed; reads = ap (λ (q : Counts). q.reads.failed) read; starved = λ none. ap (λ (q : Counts). q.starved) read }
+      record { writes = λ none. fair.seals (service at kept) all_sealed; reads = none_failed (turn (service at kept)).counts.reads (fair.reads (service at kept)); out_of_memory = λ none. fair.feeds (service at kept) all_fed }
+  given_row Refused told turn sealed read fair = record { writes = λ none. sealed; reads = ap (λ (q : TurnCounts). q.reads.failed) read; out_of_memory = λ none. ap (λ (q : TurnCounts). q.out_of_memory) read }
   given_row Textless told turn sealed read fair =
-      let desk = without_texts (service at kept) in record { writes = λ none. fair.seals desk all_sealed; reads = none_failed (turn desk).counts.reads (fair.reads desk); starved = λ none. fair.feeds desk all_fed }
+      let desk = without_texts (service at kept) in record { writes = λ none. fair.seals desk all_sealed; reads = none_failed (turn desk).counts.reads (fair.reads desk); out_of_memory = λ none. fair.feeds desk all_fed }
   given_row Unread told turn sealed read fair =
-      let desk = unread kept (service at kept) in record { writes = λ none. fair.seals desk all_sealed; reads = none_failed (turn desk).counts.reads (fair.reads desk); starved = λ none. fair.feeds desk all_fed }
+      let desk = unread kept (service at kept) in record { writes = λ none. fair.seals desk all_sealed; reads = none_failed (turn desk).counts.reads (fair.reads desk); out_of_memory = λ none. fair.feeds desk all_fed }
   given_row UnreadRefused told turn sealed read fair =
-      let desk = unread_unsaid kept (service at kept) in record { writes = λ none. fair.seals desk all_sealed; reads = none_failed (turn desk).counts.reads (fair.reads desk); starved = λ none. fair.feeds desk all_fed }
+      let desk = unread_unsaid kept (service at kept) in record { writes = λ none. fair.seals desk all_sealed; reads = none_failed (turn desk).counts.reads (fair.reads desk); out_of_memory = λ none. fair.feeds desk all_fed }
   given_row UnreadUnheard told turn sealed read fair =
-      let desk = stopped (unread kept (service at kept)) in record { writes = λ none. fair.seals desk all_sealed; reads = none_failed (turn desk).counts.reads (fair.reads desk); starved = λ none. fair.feeds desk all_fed }
+      let desk = stopped (unread kept (service at kept)) in record { writes = λ none. fair.seals desk all_sealed; reads = none_failed (turn desk).counts.reads (fair.reads desk); out_of_memory = λ none. fair.feeds desk all_fed }
   given_row (Misread texts h) told turn sealed read fair =
       let other = given_row h (lost kept) (λ desk. turn (misread kept texts desk)) refl refl (record {
         seals = λ desk all. fair.seals (misread kept texts desk) all;
         feeds = λ desk all. fair.feeds (misread kept texts desk) all;
         reads = λ desk. fair.reads (misread kept texts desk);
       }) in
-      record { writes = other.writes; reads = other.reads; starved = other.starved }
+      record { writes = other.writes; reads = other.reads; out_of_memory = other.out_of_memory }
   given_row (Misled said left) told turn sealed read fair =
-      record { writes = λ none. fair.seals (service at kept) all_sealed; reads = none_failed (turn (service at kept)).counts.reads (fair.reads (service at kept)); starved = λ none. fair.feeds (service at kept) all_fed }
+      record { writes = λ none. fair.seals (service at kept) all_sealed; reads = none_failed (turn (service at kept)).counts.reads (fair.reads (service at kept)); out_of_memory = λ none. fair.feeds (service at kept) all_fed }
   given_row Unstored told turn sealed read fair =
-      let desk = without_items kept (service at kept) in record { writes = λ none. fair.seals desk (λ by ask. refl, λ at' kept' t f. refl); reads = none_failed (turn desk).counts.reads (fair.reads desk); starved = λ none. fair.feeds desk (λ by ask. refl, λ at' kept' t f. refl) }
-  given_row Unheard told turn sealed read fair = record { writes = λ none. refl; reads = refl; starved = λ none. refl }
+      let desk = without_items kept (service at kept) in record { writes = λ none. fair.seals desk (λ by ask. refl, λ at' kept' t f. refl); reads = none_failed (turn desk).counts.reads (fair.reads desk); out_of_memory = λ none. fair.feeds desk (λ by ask. refl, λ at' kept' t f. refl) }
+  given_row Unheard told turn sealed read fair = record { writes = λ none. refl; reads = refl; out_of_memory = λ none. refl }
   given_row Unanswered told turn sealed read fair =
-      let desk = stopped (service at kept) in record { writes = λ none. fair.seals desk all_sealed; reads = none_failed (turn desk).counts.reads (fair.reads desk); starved = λ none. fair.feeds desk all_fed }
+      let desk = stopped (service at kept) in record { writes = λ none. fair.seals desk all_sealed; reads = none_failed (turn desk).counts.reads (fair.reads desk); out_of_memory = λ none. fair.feeds desk all_fed }
   given_row Unsealed told turn sealed read fair =
-      let desk = without_seals at kept (service at kept) in record { writes = λ wrong. absurd (true≢false wrong); reads = none_failed (turn desk).counts.reads (fair.reads desk); starved = λ none. fair.feeds desk unsealed_feeds }
+      let desk = without_seals at kept (service at kept) in record { writes = λ wrong. absurd (true≢false wrong); reads = none_failed (turn desk).counts.reads (fair.reads desk); out_of_memory = λ none. fair.feeds desk unsealed_feeds }
   given_row Untold told turn sealed read fair =
-      let desk = stopped (without_seals at kept (service at kept)) in record { writes = λ wrong. absurd (true≢false wrong); reads = none_failed (turn desk).counts.reads (fair.reads desk); starved = λ none. fair.feeds desk unsealed_feeds }
+      let desk = stopped (without_seals at kept (service at kept)) in record { writes = λ wrong. absurd (true≢false wrong); reads = none_failed (turn desk).counts.reads (fair.reads desk); out_of_memory = λ none. fair.feeds desk unsealed_feeds }
   given_row Unwritten told turn sealed read fair =
       let desk = without_writes kept (service at kept) in
-      record { writes = λ none. fair.seals desk none_sealed; reads = none_failed (turn desk).counts.reads (fair.reads desk); starved = λ wrong. absurd (true≢false wrong) }
+      record { writes = λ none. fair.seals desk none_sealed; reads = none_failed (turn desk).counts.reads (fair.reads desk); out_of_memory = λ wrong. absurd (true≢false wrong) }
   given_row UnwrittenUnheard told turn sealed read fair =
       let desk = stopped (without_writes kept (service at kept)) in
-      record { writes = λ none. fair.seals desk none_sealed; reads = none_failed (turn desk).counts.reads (fair.reads desk); starved = λ wrong. absurd (true≢false wrong) }
+      record { writes = λ none. fair.seals desk none_sealed; reads = none_failed (turn desk).counts.reads (fair.reads desk); out_of_memory = λ wrong. absurd (true≢false wrong) }
   given_row (Halfway h) told turn sealed read fair =
       let desk = halfway h (service at kept) in
-      record { writes = λ none. fair.seals desk (λ by ask. refl, further_seals h none); reads = none_failed (turn desk).counts.reads (fair.reads desk); starved = λ none. fair.feeds desk (λ by ask. refl, further_feeds h none) }
+      record { writes = λ none. fair.seals desk (λ by ask. refl, further_seals h none); reads = none_failed (turn desk).counts.reads (fair.reads desk); out_of_memory = λ none. fair.feeds desk (λ by ask. refl, further_feeds h none) }
 
   licensed : (h : Hindrance) (told : Turn D) (turn : Service → Turn D) → told.unsealed ≡ [] → told.counts ≡ none_counted → IsFair turn
       → ((texts : List (List ℕ)) → IsGiven (λ desk. turn (misread kept texts desk))) → IsLicensed (turn (service at kept)) (row h at kept told turn)
   licensed Clear told turn sealed read fair given =
       quiet_row (turn (service at kept)) (row Clear at kept told turn) (λ e. refl) (fair.seals (service at kept) all_sealed) (either_none (service at kept) (λ bodies. refl) (turn (service at kept)).counts.reads (fair.reads (service at kept)))
       (fair.feeds (service at kept) all_fed)
-  licensed Refused told turn sealed read fair given = quiet_row (turn (service at kept)) (row Refused at kept told turn) (λ e. absurd (true≢false (ap some e))) sealed (ap (λ (q : Counts). q.reads) read) (ap (λ (q : Counts). q.starved) read)
+  licensed Refused told turn sealed read fair given = quiet_row (turn (service at kept)) (row Refused at kept told turn) (λ e. absurd (true≢false (ap some e))) sealed (ap (λ (q : TurnCounts). q.reads) read) (ap (λ (q : TurnCounts). q.out_of_memory) read)
   licensed Textless told turn sealed read fair given =
       let desk = without_texts (service at kept) in quiet_row (turn (service at kept)) (row Textless at kept told turn) (λ e. absurd (true≢false (ap some e))) (fair.seals desk all_sealed) (either_none desk (λ bodies. refl) (turn desk).counts.reads (fair.reads desk))
       (fair.feeds desk all_fed)
   licensed Unread told turn sealed read fair given =
       let desk = unread kept (service at kept) in
-      record { goes = λ e. absurd (true≢false (ap some e)); writes = λ none. fair.seals desk all_sealed; reads = λ wrong. absurd (true≢false wrong); wrong = λ none. none_wrong desk (unread_right NotRead at kept) (turn desk).counts.reads (fair.reads desk); starved = λ none. fair.feeds desk all_fed }
+      record { goes = λ e. absurd (true≢false (ap some e)); writes = λ none. fair.seals desk all_sealed; reads = λ wrong. absurd (true≢false wrong); wrong = λ none. none_wrong desk (unread_right NotRead at kept) (turn desk).counts.reads (fair.reads desk); out_of_memory = λ none. fair.feeds desk all_fed }
   licensed UnreadRefused told turn sealed read fair given =
       let desk = unread_unsaid kept (service at kept) in
-      record { goes = λ e. absurd (true≢false (ap some e)); writes = λ none. fair.seals desk all_sealed; reads = λ wrong. absurd (true≢false wrong); wrong = λ none. none_wrong desk (unread_right NoneForTexts at kept) (turn desk).counts.reads (fair.reads desk); starved = λ none. fair.feeds desk all_fed }
+      record { goes = λ e. absurd (true≢false (ap some e)); writes = λ none. fair.seals desk all_sealed; reads = λ wrong. absurd (true≢false wrong); wrong = λ none. none_wrong desk (unread_right NoneForTexts at kept) (turn desk).counts.reads (fair.reads desk); out_of_memory = λ none. fair.feeds desk all_fed }
   licensed UnreadUnheard told turn sealed read fair given =
       let desk = stopped (unread kept (service at kept)) in
-      record { goes = λ e. absurd (true≢false (ap some e)); writes = λ none. fair.seals desk all_sealed; reads = λ wrong. absurd (true≢false wrong); wrong = λ none. none_wrong desk (unread_right NotRead at kept) (turn desk).counts.reads (fair.reads desk); starved = λ none. fair.feeds desk all_fed }
+      record { goes = λ e. absurd (true≢false (ap some e)); writes = λ none. fair.seals desk all_sealed; reads = λ wrong. absurd (true≢false wrong); wrong = λ none. none_wrong desk (unread_right NotRead at kept) (turn desk).counts.reads (fair.reads desk); out_of_memory = λ none. fair.feeds desk all_fed }
   licensed (Misread texts h) told turn sealed read fair given =
       let other = given_row h (lost kept) (λ desk. turn (misread kept texts desk)) refl refl (given texts) in
-      record { goes = λ e. absurd (true≢false (ap some e)); writes = other.writes; reads = λ none. other.reads; wrong = λ wrong. absurd (true≢false wrong); starved = other.starved }
+      record { goes = λ e. absurd (true≢false (ap some e)); writes = other.writes; reads = λ none. other.reads; wrong = λ wrong. absurd (true≢false wrong); out_of_memory = other.out_of_memory }
   licensed (Misled said left) told turn sealed read fair given =
       record {
         goes = λ e. absurd (true≢false (ap some e));
         writes = λ none. fair.seals (service at kept) all_sealed;
         reads = λ none. ap (λ (q : Reads). q.failed) (either_none (service at kept) (λ bodies. refl) (turn (service at kept)).counts.reads (fair.reads (service at kept)));
         wrong = λ wrong. absurd (true≢false wrong);
-        starved = λ none. fair.feeds (service at kept) all_fed;
+        out_of_memory = λ none. fair.feeds (service at kept) all_fed;
       }
   licensed Unstored told turn sealed read fair given =
       let desk = without_items kept (service at kept) in quiet_row (turn (service at kept)) (row Unstored at kept told turn) (λ e. absurd (true≢false (ap some e))) (fair.seals desk (λ by ask. refl, λ at' kept' t f. refl)) (either_none desk (λ bodies. refl) (turn desk).counts.reads (fair.reads desk))
@@ -382,19 +382,19 @@ module _ {D : Type 0} (at : ℕ) (kept : Kept) where
   licensed Unsealed told turn sealed read fair given =
       let desk = without_seals at kept (service at kept) in
       let none = either_none desk (λ bodies. refl) (turn desk).counts.reads (fair.reads desk) in
-      record { goes = λ e. absurd (true≢false (ap some e)); writes = λ wrong. absurd (true≢false wrong); reads = λ _. ap (λ (q : Reads). q.failed) none; wrong = λ _. ap (λ (q : Reads). q.wrong) none; starved = λ _. fair.feeds desk unsealed_feeds }
+      record { goes = λ e. absurd (true≢false (ap some e)); writes = λ wrong. absurd (true≢false wrong); reads = λ _. ap (λ (q : Reads). q.failed) none; wrong = λ _. ap (λ (q : Reads). q.wrong) none; out_of_memory = λ _. fair.feeds desk unsealed_feeds }
   licensed Untold told turn sealed read fair given =
       let desk = stopped (without_seals at kept (service at kept)) in
       let none = either_none desk (λ bodies. refl) (turn desk).counts.reads (fair.reads desk) in
-      record { goes = λ e. absurd (true≢false (ap some e)); writes = λ wrong. absurd (true≢false wrong); reads = λ _. ap (λ (q : Reads). q.failed) none; wrong = λ _. ap (λ (q : Reads). q.wrong) none; starved = λ _. fair.feeds desk unsealed_feeds }
+      record { goes = λ e. absurd (true≢false (ap some e)); writes = λ wrong. absurd (true≢false wrong); reads = λ _. ap (λ (q : Reads). q.failed) none; wrong = λ _. ap (λ (q : Reads). q.wrong) none; out_of_memory = λ _. fair.feeds desk unsealed_feeds }
   licensed Unwritten told turn sealed read fair given =
       let desk = without_writes kept (service at kept) in
       let none = either_none desk (λ bodies. refl) (turn desk).counts.reads (fair.reads desk) in
-      record { goes = λ e. absurd (true≢false (ap some e)); writes = λ _. fair.seals desk none_sealed; reads = λ _. ap (λ (q : Reads). q.failed) none; wrong = λ _. ap (λ (q : Reads). q.wrong) none; starved = λ wrong. absurd (true≢false wrong) }
+      record { goes = λ e. absurd (true≢false (ap some e)); writes = λ _. fair.seals desk none_sealed; reads = λ _. ap (λ (q : Reads). q.failed) none; wrong = λ _. ap (λ (q : Reads). q.wrong) none; out_of_memory = λ wrong. absurd (true≢false wrong) }
   licensed UnwrittenUnheard told turn sealed read fair given =
       let desk = stopped (without_writes kept (service at kept)) in
       let none = either_none desk (λ bodies. refl) (turn desk).counts.reads (fair.reads desk) in
-      record { goes = λ e. absurd (true≢false (ap some e)); writes = λ _. fair.seals desk none_sealed; reads = λ _. ap (λ (q : Reads). q.failed) none; wrong = λ _. ap (λ (q : Reads). q.wrong) none; starved = λ wrong. absurd (true≢false wrong) }
+      record { goes = λ e. absurd (true≢false (ap some e)); writes = λ _. fair.seals desk none_sealed; reads = λ _. ap (λ (q : Reads). q.failed) none; wrong = λ _. ap (λ (q : Reads). q.wrong) none; out_of_memory = λ wrong. absurd (true≢false wrong) }
   licensed (Halfway h) told turn sealed read fair given =
       let desk = halfway h (service at kept) in
       let none = either_none desk (λ bodies. refl) (turn desk).counts.reads (fair.reads desk) in
@@ -403,15 +403,15 @@ module _ {D : Type 0} (at : ℕ) (kept : Kept) where
         writes = λ without. fair.seals desk (λ by ask. refl, further_seals h without);
         reads = λ _. ap (λ (q : Reads). q.failed) none;
         wrong = λ _. ap (λ (q : Reads). q.wrong) none;
-        starved = λ without. fair.feeds desk (λ by ask. refl, further_feeds h without);
+        out_of_memory = λ without. fair.feeds desk (λ by ask. refl, further_feeds h without);
       }
 
 -- a session's row
 pub session_licensed : {D U : Type 0} → (session : Session D U) (h : Hindrance) (at : ℕ) (kept : Kept) (others : Seats) (d : D) (unit : U)
-    → (session.starves kept d unit).unsealed ≡ [] → (session.starves kept d unit).counts ≡ none_counted → IsLicensedRow session h at kept others d unit
+    → (session.runs_out_of_memory kept d unit).unsealed ≡ [] → (session.runs_out_of_memory kept d unit).counts ≡ none_counted → IsLicensedRow session h at kept others d unit
 session_licensed {D} session h at kept others d unit sealed read =
     let t = session.takes at kept others d unit in
-    licensed {D = D} at kept h (session.starves kept d unit) (λ desk. served session desk at kept others d unit) sealed read
+    licensed {D = D} at kept h (session.runs_out_of_memory kept d unit) (λ desk. served session desk at kept others d unit) sealed read
     (record {
       seals = λ desk all. followed_sealed session.speech kept desk t.out t.dialog all;
       feeds = λ desk all. followed_fed session.speech kept desk t.out t.dialog all;
@@ -436,11 +436,11 @@ pub client_licensed : (h : Hindrance) (at : ℕ) (kept : Kept) (others : Seats) 
 client_licensed h at kept others d line =
     session_licensed smtp_session h at kept others d line (client_sealed kept d (smtp.is_writing d)) (client_read kept d (smtp.is_writing d))
 
-command_sealed : (kept : Kept) (d : ImapDialog) (r : Reading) → (reader.starved_command kept d r).unsealed ≡ []
+command_sealed : (kept : Kept) (d : ImapDialog) (r : Reading) → (reader.out_of_memory_command kept d r).unsealed ≡ []
 command_sealed kept d (Ok command) = refl
 command_sealed kept d (Err why) = refl
 
-command_read : (kept : Kept) (d : ImapDialog) (r : Reading) → (reader.starved_command kept d r).counts ≡ none_counted
+command_read : (kept : Kept) (d : ImapDialog) (r : Reading) → (reader.out_of_memory_command kept d r).counts ≡ none_counted
 command_read kept d (Ok command) = refl
 command_read kept d (Err why) = refl
 

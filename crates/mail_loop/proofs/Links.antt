@@ -9,7 +9,7 @@ use Rattle.undo_outside.specs.Calls.{LinkTold, Rose, RoseOnce, Wants, then_told,
 use Rattle.undo_base.specs.declared.memory.NoMemory.{NoMemory as WantOfMemory}
 use Rattle.mail_loop.specs.Machine.{Delivery, Arrives, IsMissed, IsLeftOut, Reply, string_notes, close_notes, reply_notes, after_reply, delivered, remains}
 use Rattle.mail_loop.specs.State.{Seats}
-use Rattle.desk_journal.specs.Reading.{Counted, RoseBy}
+use Rattle.desk_journal.specs.Reading.{Counted, RoseAtLeast}
 use Rattle.mail_loop.specs.Did.{Goes, AreLicensed, StopsAtClose, Told, Replied, Did, Sends, left_out_by, left_out_of, missed_by, missed_of, unclosed_by}
 
 -- nothing more is told
@@ -33,15 +33,15 @@ goes_on_goes a b c xs ys g h = record {
 }
 
 -- a count that rose by some and then by more
-pub rose_add : (m n a b c : ℕ) → RoseBy m a b → RoseBy n b c → RoseBy (m + n) a c
-rose_add zero n a b c e r = subst (λ k. RoseBy k a c) (sym (zero-add n)) (subst (λ x. RoseBy n x c) e r)
-rose_add (suc m) zero a b c r e = subst (λ k. RoseBy k a c) (sym (add-zero (suc m))) (subst (λ x. RoseBy (suc m) a x) (sym e) r)
+pub rose_add : (m n a b c : ℕ) → RoseAtLeast m a b → RoseAtLeast n b c → RoseAtLeast (m + n) a c
+rose_add zero n a b c e r = subst (λ k. RoseAtLeast k a c) (sym (zero-add n)) (subst (λ x. RoseAtLeast n x c) e r)
+rose_add (suc m) zero a b c r e = subst (λ k. RoseAtLeast k a c) (sym (add-zero (suc m))) (subst (λ x. RoseAtLeast (suc m) a x) (sym e) r)
 rose_add (suc m) (suc n) a b c (r, r') (q, q') =
     let whole : suc m + suc n ≡ suc (m + suc n) = omega arith in
-    subst (λ k. RoseBy k a c) (sym whole) (omega arith, omega arith)
+    subst (λ k. RoseAtLeast k a c) (sym whole) (omega arith, omega arith)
 
 -- a count that rose
-pub rose_one : (a b : ℕ) → Rose a b → RoseBy (1 + 0) a b
+pub rose_one : (a b : ℕ) → Rose a b → RoseAtLeast (1 + 0) a b
 rose_one a b (r, q) = (r, q)
 
 -- a count that stood, rose by one, or rose by some and then by more
@@ -54,38 +54,38 @@ counted_one a b (r, u) = (rose_one a b r, u)
 pub counted_add : (m n a b c : ℕ) → Counted m a b → Counted n b c → Counted (m + n) a c
 counted_add m n a b c (r, u) (q, v) = (rose_add m n a b c r q, omega (arith, u, v))
 
-pub none_licensed : (a b : LinkTold) → b.missed ≡ a.missed → b.starved ≡ a.starved → AreLicensed [] 0 a b
-none_licensed a b e f = record { rose = e; starved = counted_none a.starved b.starved f; reliable = λ _. refl }
+pub none_licensed : (a b : LinkTold) → b.missed ≡ a.missed → b.out_of_memory ≡ a.out_of_memory → AreLicensed [] 0 a b
+none_licensed a b e f = record { rose = e; out_of_memory = counted_none a.out_of_memory b.out_of_memory f; reliable = λ _. refl }
 
 -- one string more
 pub licensed_more : (d : Delivery) (ds : List Delivery) (n : ℕ) (a b c : LinkTold) → AreLicensed (d ∷ []) 0 a b → b.is_reliable ≡ a.is_reliable → AreLicensed ds n b c → AreLicensed (d ∷ ds) n a c
 licensed_more d ds n a b c l same m = record {
-  rose = subst (λ k. RoseBy (k + missed_of ds) a.missed c.missed) (add-zero (missed_by d)) (rose_add (missed_by d + 0) (missed_of ds) a.missed b.missed c.missed l.rose m.rose);
-  starved =
+  rose = subst (λ k. RoseAtLeast (k + missed_of ds) a.missed c.missed) (add-zero (missed_by d)) (rose_add (missed_by d + 0) (missed_of ds) a.missed b.missed c.missed l.rose m.rose);
+  out_of_memory =
       let whole : ((left_out_by d + 0) + 0) + (left_out_of ds + n) ≡ (left_out_by d + left_out_of ds) + n = omega arith in
-      subst (λ k. Counted k a.starved c.starved) whole (counted_add ((left_out_by d + 0) + 0) (left_out_of ds + n) a.starved b.starved c.starved l.starved m.starved);
+      subst (λ k. Counted k a.out_of_memory c.out_of_memory) whole (counted_add ((left_out_by d + 0) + 0) (left_out_of ds + n) a.out_of_memory b.out_of_memory c.out_of_memory l.out_of_memory m.out_of_memory);
   reliable = λ e. let one = l.reliable e in let more = m.reliable (same ∙ e) in omega arith;
 }
 
 -- a close more found no memory
 unclosed_more : (d : Delivery) (a b c : LinkTold) → AreLicensed (d ∷ []) 0 a b → Wants b c → AreLicensed (d ∷ []) 1 a c
 unclosed_more d a b c l (e, once) = record {
-  rose = subst (λ m. RoseBy (missed_of (d ∷ [])) a.missed m) (sym (ap (λ (t : LinkTold). t.missed) e)) l.rose;
-  starved =
+  rose = subst (λ m. RoseAtLeast (missed_of (d ∷ [])) a.missed m) (sym (ap (λ (t : LinkTold). t.missed) e)) l.rose;
+  out_of_memory =
       let whole : ((left_out_by d + 0) + 0) + 1 ≡ (left_out_by d + 0) + 1 = omega arith in
-      subst (λ k. Counted k a.starved c.starved) whole (counted_add ((left_out_by d + 0) + 0) 1 a.starved b.starved c.starved l.starved (counted_one b.starved c.starved once));
+      subst (λ k. Counted k a.out_of_memory c.out_of_memory) whole (counted_add ((left_out_by d + 0) + 0) 1 a.out_of_memory b.out_of_memory c.out_of_memory l.out_of_memory (counted_one b.out_of_memory c.out_of_memory once));
   reliable = l.reliable;
 }
 
 -- a string arrives or is left out
-arrives_licensed : (a b : LinkTold) → b.missed ≡ a.missed → b.starved ≡ a.starved → AreLicensed (Arrives ∷ []) 0 a b
-arrives_licensed a b e f = record { rose = e; starved = counted_none a.starved b.starved f; reliable = λ _. refl }
+arrives_licensed : (a b : LinkTold) → b.missed ≡ a.missed → b.out_of_memory ≡ a.out_of_memory → AreLicensed (Arrives ∷ []) 0 a b
+arrives_licensed a b e f = record { rose = e; out_of_memory = counted_none a.out_of_memory b.out_of_memory f; reliable = λ _. refl }
 
-left_out_licensed : (a b : LinkTold) → b.missed ≡ a.missed → RoseOnce a.starved b.starved → AreLicensed (IsLeftOut ∷ []) 0 a b
-left_out_licensed a b e once = record { rose = e; starved = counted_one a.starved b.starved once; reliable = λ _. refl }
+left_out_licensed : (a b : LinkTold) → b.missed ≡ a.missed → RoseOnce a.out_of_memory b.out_of_memory → AreLicensed (IsLeftOut ∷ []) 0 a b
+left_out_licensed a b e once = record { rose = e; out_of_memory = counted_one a.out_of_memory b.out_of_memory once; reliable = λ _. refl }
 
 -- a note more in the log, and nothing else
-pub one_note : (old new : LinkTold) (note : LinkNote) → new ≡ record old { log = then_told old.log (note ∷ []); starved_last = false } → Goes old new (note ∷ [])
+pub one_note : (old new : LinkTold) (note : LinkNote) → new ≡ record old { log = then_told old.log (note ∷ []); out_of_memory_last = false } → Goes old new (note ∷ [])
 one_note old new note e = record {
   log = ap (λ (t : LinkTold). t.log) e;
   coming = ap (λ (t : LinkTold). t.coming) e;
@@ -117,7 +117,7 @@ pub told_sent : (old new : LinkTold) (conn : ℕ) (said : List ℕ) (closes : Bo
 told_sent old new conn [] closes some sent = absurd (some refl)
 told_sent old new conn (b ∷ bytes) closes some sent = record {
   delivery = Arrives;
-  licensed = arrives_licensed old new (ap (λ (t : LinkTold). t.missed) sent) (ap (λ (t : LinkTold). t.starved) sent);
+  licensed = arrives_licensed old new (ap (λ (t : LinkTold). t.missed) sent) (ap (λ (t : LinkTold). t.out_of_memory) sent);
   stays_is = refl;
   goes = one_note old new (Sent conn (b ∷ bytes)) sent;
 }
@@ -130,7 +130,7 @@ told_not old new conn (b ∷ bytes) closes Failed some sent = record {
   delivery = IsMissed;
   licensed = record {
     rose = rose_one old.missed new.missed sent.1;
-    starved = counted_none old.starved new.starved (ap (λ (t : LinkTold). t.starved) sent.0);
+    out_of_memory = counted_none old.out_of_memory new.out_of_memory (ap (λ (t : LinkTold). t.out_of_memory) sent.0);
     reliable = λ e. absurd (let wrong : true ≡ false = sym e ∙ sent.2 in cc);
   };
   stays_is = refl;
@@ -161,7 +161,7 @@ replied_unclosed old mid new r stays w result failed closes t wants =
       string,
       ap (λ b. string ++ close_notes r.conn b) last,
       subst (λ n. Goes old new n) (append-nil string) (goes_on_goes old mid new string [] t.goes (wanted_none mid new wants)),
-      record { conn = r.conn; rest = []; more_is = refl; starved_last = ap (λ (t : LinkTold). t.starved_last) wants.0 },
+      record { conn = r.conn; rest = []; more_is = refl; out_of_memory_last = ap (λ (t : LinkTold). t.out_of_memory_last) wants.0 },
     )
 
 -- the link did more after this
@@ -216,7 +216,7 @@ sends_stopped old new seats seats2 r rs w v result failed (d, licensed, more, no
               whole = (
                 more ++ rest,
                 ap (λ n. n ++ rest) e ∙ append_assoc notes more rest,
-                record { conn = stops.conn; rest = stops.rest ++ rest; more_is = ap (λ n. n ++ rest) stops.more_is; starved_last = stops.starved_last },
+                record { conn = stops.conn; rest = stops.rest ++ rest; more_is = ap (λ n. n ++ rest) stops.more_is; out_of_memory_last = stops.out_of_memory_last },
               );
             };
             seats_are = tt;

@@ -24,7 +24,7 @@ use Rattle.pop_session.specs.Dialog as session
 use Rattle.store_kept.specs.Kept.{Kept, store_of}
 use Rattle.store_kept.specs.Texts.{all_bodies, has_text_kept}
 use Rattle.verb_bytes.specs.declared.journal.JournalRecord.{JournalRecord}
-use Rattle.mail_loop.specs.Counts.{Counts, none_counted}
+use Rattle.mail_loop.specs.TurnCounts.{TurnCounts, none_counted}
 use Rattle.mail_loop.specs.declared.reply.Reply.{Reply}
 use Rattle.mail_loop.specs.State.{Seat, Seats, State, Smtp, Imap, Http, Pop, beside}
 use Rattle.mail_loop.specs.Turn.{Turn, lost, says}
@@ -33,7 +33,7 @@ use Rattle.mail_loop.specs.Turns.{Outcome as AfterTurns, after, fetches, goes_on
 use Rattle.mail_loop.specs.Hindrance.{Hindrance, Refused, Unheard, first_hindrance, other_hindrances, under}
 use Rattle.mail_loop.specs.PopTurn.{in_use, is_fetching, is_read, memory_told, of_pop, pop_beside, pop_session, pop_speech, text_of, took_by, user_at, user_beside}
 use Rattle.mail_loop.specs.Stands.{AreInUse}
-use Rattle.mail_loop.specs.Took.{Adds, AreThere, AsksAs, GoesOn, IsAwaitedLast, IsNext, IsNone, ReadsStarved, Takes}
+use Rattle.mail_loop.specs.Took.{Adds, AreThere, AsksAs, GoesOn, IsAwaitedLast, IsNext, IsNone, ReadsOutOfMemory, Takes}
 use Rattle.mail_loop.proofs.Dialogs.{textless_turn}
 use Rattle.mail_loop.proofs.Units.{begun_turn}
 use Rattle.mail_loop.proofs.Telling.{closed, lifted, told_whole}
@@ -76,13 +76,13 @@ reading_of (Reads body) d read is = is
 reading_of (Submits ask) d wrong is = absurd (true≢false (sym wrong))
 
 -- no memory was found for the text that is to be read
-pub textless_line : (S : List JournalRecord → Counts → Type 0) (at : ℕ) (kept : Kept) (out : PopOut) (d e : Dialog) (old new : Reply) → is_read out ≡ true → session.IsNext out d
-    → S [] none_counted → ReadsStarved pop_speech kept d old e new
+pub textless_line : (S : List JournalRecord → TurnCounts → Type 0) (at : ℕ) (kept : Kept) (out : PopOut) (d e : Dialog) (old new : Reply) → is_read out ≡ true → session.IsNext out d
+    → S [] none_counted → ReadsOutOfMemory pop_speech kept d old e new
     → (h : Hindrance) × Takes S (under h at kept (λ desk. followed pop_speech desk kept (of_pop out) d)) old kept e new
-textless_line S at kept (Says said) d e old new wrong is seals starved = absurd (true≢false (sym wrong))
-textless_line S at kept (Ends said) d e old new wrong is seals starved = absurd (true≢false (sym wrong))
-textless_line S at kept (Reads body) d e old new read is seals starved = textless_turn pop_speech S at kept (body ∷ []) d e old new is seals starved
-textless_line S at kept (Submits ask) d e old new wrong is seals starved = absurd (true≢false (sym wrong))
+textless_line S at kept (Says said) d e old new wrong is seals out_of_memory = absurd (true≢false (sym wrong))
+textless_line S at kept (Ends said) d e old new wrong is seals out_of_memory = absurd (true≢false (sym wrong))
+textless_line S at kept (Reads body) d e old new read is seals out_of_memory = textless_turn pop_speech S at kept (body ∷ []) d e old new is seals out_of_memory
+textless_line S at kept (Submits ask) d e old new wrong is seals out_of_memory = absurd (true≢false (sym wrong))
 
 -- ---- what was awaited
 
@@ -134,7 +134,7 @@ awaited_last (Submits ask) d none is = is
 -- ---- a line
 
 -- what follows from what a line gives is its turn
-pub line_turn : (S : List JournalRecord → Counts → Type 0) (at : ℕ) (kept kept' : Kept) (users : List User) (d e e' : Dialog) (line : SmtpLine) (out : PopOut) (old new : Reply)
+pub line_turn : (S : List JournalRecord → TurnCounts → Type 0) (at : ℕ) (kept kept' : Kept) (users : List User) (d e e' : Dialog) (line : SmtpLine) (out : PopOut) (old new : Reply)
     → session.turn kept.house (store_of kept) kept.stamps (size_in kept) users d line ≡ session.took out e
     → (h : Hindrance) × Takes S (under h at kept (λ desk. followed pop_speech desk kept (of_pop out) e)) old kept' e' new
     → (h : Hindrance) × ((others : Seats) → Takes S (hindered (pop_beside users) h at kept others d line) old kept' e' new)
@@ -143,16 +143,16 @@ line_turn S at kept kept' users d e e' line out old new is t =
     (u.0, λ others. u.1)
 
 -- no memory was found for a line
-pub starved_line : (S : List JournalRecord → Counts → Type 0) (at : ℕ) (kept : Kept) (users : List User) (d e : Dialog) (line : SmtpLine) (text : List ℕ) (old new : Reply) → e ≡ d → text ≡ memory_told → S [] none_counted
+pub out_of_memory_line : (S : List JournalRecord → TurnCounts → Type 0) (at : ℕ) (kept : Kept) (users : List User) (d e : Dialog) (line : SmtpLine) (text : List ℕ) (old new : Reply) → e ≡ d → text ≡ memory_told → S [] none_counted
     → Adds text false old new → (h : Hindrance) × ((others : Seats) → Takes S (hindered (pop_beside users) h at kept others d line) old kept e new)
-starved_line S at kept users d e line text old new same is none (inl added) = (
+out_of_memory_line S at kept users d e line text old new same is none (inl added) = (
   Refused,
   λ others.
       lifted S (says memory_told kept d) old kept e new
       (subst (λ (f : Dialog). Takes IsNone (says memory_told kept d) old kept f new) (sym same)
       (told_whole memory_told kept d old new (added ∙ ap (λ (s : List ℕ). record old { said = old.said ++ s; closes = false }) is))) none,
 )
-starved_line S at kept users d e line text old new same is none (inr shut) = (Unheard, λ others. lifted S (lost {D = Dialog} kept) old kept e new (closed kept kept e old new refl shut) none)
+out_of_memory_line S at kept users d e line text old new same is none (inr shut) = (Unheard, λ others. lifted S (lost {D = Dialog} kept) old kept e new (closed kept kept e old new refl shut) none)
 
 -- ---- a stretch of lines
 

@@ -11,14 +11,14 @@ use Rattle.undo_outside.specs.Calls.{LinkTold, Rose, then_told, IsNext, Comes}
 use Rattle.mail_loop.specs.declared.serve.ServeFault.{ServeFault}
 use Rattle.mail_loop.specs.declared.serve.ServeFault.TheVariants.{Link, Disk, Turns, NoMemory}
 use Rattle.verb_bytes.specs.declared.journal.JournalRecord.{JournalRecord}
-use Rattle.desk_journal.specs.Reading.{Counted, RoseBy}
-use Rattle.mail_loop.specs.Counts.{Counts, both_counted, none_counted}
+use Rattle.desk_journal.specs.Reading.{Counted, RoseAtLeast}
+use Rattle.mail_loop.specs.TurnCounts.{TurnCounts, both_counted, none_counted}
 use Rattle.store_kept.specs.Kept.{Kept}
 use Rattle.mail_loop.specs.State.{State, Seats}
 use Rattle.mail_loop.specs.ConsoleTurn.{AreSaid, Reading, both, no_consoles}
 use Rattle.mail_loop.specs.Machine.{Hindrances, Keeping, IsPassed, Outcome, happens, is_end}
 use Rattle.mail_loop.specs.Did.{AreLicensed, Goes, Leads, StopsAtClose, WantsIn, left_out_of, missed_of}
-use Rattle.mail_loop.specs.Serving.{Step, after_notes, run, at_first, NoEnd, missed_in, ComeInOrder, counts_in, events_of, readings_in, stopped_in, unsealed_in, left_out_in, CountsFaults, IsCutAtClose, IsLeftStarved, IsLeftUnsealed, Serves, Served, ServedOver, ended_as}
+use Rattle.mail_loop.specs.Serving.{Step, after_notes, run, at_first, NoEnd, missed_in, ComeInOrder, counts_in, events_of, readings_in, stopped_in, unsealed_in, left_out_in, CountsFaults, IsCutAtClose, IsLeftOutOfMemory, IsLeftUnsealed, Serves, Served, ServedOver, ended_as}
 use Rattle.mail_loop.proofs.Sealed.{no_more, none_before, counts_regroup}
 use Rattle.mail_loop.proofs.Links.{counted_add, counted_one, then_told-nil, then_told-append, rose_add}
 
@@ -41,7 +41,7 @@ or_more : (a b c : Bool) → (a || (b || c)) ≡ ((a || b) || c)
 or_more true b c = refl
 or_more false b c = refl
 
-before_and_after : (r : Counts) → both_counted r none_counted ≡ both_counted none_counted r
+before_and_after : (r : TurnCounts) → both_counted r none_counted ≡ both_counted none_counted r
 before_and_after r = none_before r ∙ sym (no_more r)
 
 run_more : (steps : List Step) (s : State) (step : Step) → run (steps ++ step ∷ []) s ≡ then_step (run steps s) step
@@ -92,7 +92,7 @@ left_out_more [] step = omega arith
 left_out_more (s ∷ steps) step = let more = left_out_more steps step in omega arith
 
 -- serving ended so; T holds of the record whose sealing failed, and of what was counted, and C of the steps
-abbrev pub Ran : (List JournalRecord → Counts → Type 0) → (List Step → Type 0) → ℕ → LinkTold → LinkTold → Kept → Kept → Result (Unit {0}) ServeFault → Type 0
+abbrev pub Ran : (List JournalRecord → TurnCounts → Type 0) → (List Step → Type 0) → ℕ → LinkTold → LinkTold → Kept → Kept → Result (Unit {0}) ServeFault → Type 0
 Ran T C limit old new kept kept' result =
     (steps : List Step) × (notes : List LinkNote) × ServedOver limit steps notes old new kept kept' result × T (unsealed_in steps kept) (counts_in steps kept) × C steps
 
@@ -100,9 +100,9 @@ Ran T C limit old new kept kept' result =
 pub record Done (wants : ℕ) (old new : LinkTold) (steps : List Step) (notes : List LinkNote) : Type 0 where
   pub log : new.log ≡ then_told old.log notes
   pub order : ComeInOrder old.coming (events_of steps) new.coming
-  pub missed : RoseBy (missed_in steps) old.missed new.missed
+  pub missed : RoseAtLeast (missed_in steps) old.missed new.missed
   pub none_missed : old.is_reliable ≡ true → missed_in steps ≡ 0
-  pub starved : Counted (left_out_in steps + wants) old.starved new.starved
+  pub out_of_memory : Counted (left_out_in steps + wants) old.out_of_memory new.out_of_memory
   pub reliable : new.is_reliable ≡ old.is_reliable
   pub faults : new.faults ≡ old.faults
 
@@ -112,7 +112,7 @@ done_none told = record {
   order = refl;
   missed = refl;
   none_missed = λ _. refl;
-  starved = (refl, omega arith);
+  out_of_memory = (refl, omega arith);
   reliable = refl;
   faults = refl;
 }
@@ -124,35 +124,35 @@ pub record SoServed (turns : ℕ) (old new : LinkTold) (kept : Kept) (state : St
   pub count : length steps ≡ turns
   pub no_end : NoEnd steps
   pub readings : List Reading
-  pub counts : Counts
+  pub counts : TurnCounts
   pub leaves : run steps (at_first kept) ≡ record { state = state; notes = notes; unsealed = []; counts = counts; consoles = record { readings = readings; stops = false } }
   pub said : AreSaid readings
   pub done : Done 0 old new steps notes
 
 -- the same, and S holds of what was counted, and C of the steps
-pub record SoSealed (S : List JournalRecord → Counts → Type 0) (C : List Step → Type 0) (turns : ℕ) (old new : LinkTold) (kept : Kept) (state : State) : Type 0 where
+pub record SoSealed (S : List JournalRecord → TurnCounts → Type 0) (C : List Step → Type 0) (turns : ℕ) (old new : LinkTold) (kept : Kept) (state : State) : Type 0 where
   pub served : SoServed turns old new kept state
   pub seals : S [] served.counts
   pub course : C served.steps
 
 -- none failed
-abbrev pub Only : (List JournalRecord → Counts → Type 0) → Type 0
-Only S = (failed : List JournalRecord) (counts : Counts) → S failed counts → failed ≡ []
+abbrev pub Only : (List JournalRecord → TurnCounts → Type 0) → Type 0
+Only S = (failed : List JournalRecord) (counts : TurnCounts) → S failed counts → failed ≡ []
 
 -- some failed
-abbrev pub Fails : (List JournalRecord → Counts → Type 0) → Type 0
-Fails S = (failed : List JournalRecord) (counts : Counts) → S failed counts → failed ≢ []
+abbrev pub Fails : (List JournalRecord → TurnCounts → Type 0) → Type 0
+Fails S = (failed : List JournalRecord) (counts : TurnCounts) → S failed counts → failed ≢ []
 
 -- S before and then T is U of both
-abbrev pub Chains : (List JournalRecord → Counts → Type 0) → (List JournalRecord → Counts → Type 0) → (List JournalRecord → Counts → Type 0) → Type 0
-Chains S T U = (failed : List JournalRecord) (r q : Counts) → S [] r → T failed q → U failed (both_counted r q)
+abbrev pub Chains : (List JournalRecord → TurnCounts → Type 0) → (List JournalRecord → TurnCounts → Type 0) → (List JournalRecord → TurnCounts → Type 0) → Type 0
+Chains S T U = (failed : List JournalRecord) (r q : TurnCounts) → S [] r → T failed q → U failed (both_counted r q)
 
 -- C of steps, behind which the machine has this state, and then W of what hinders an event, which leaves this, is E of all
 abbrev pub Extends : (List Step → Type 0) → (Hindrances → Type 0) → (List Step → Type 0) → Kept → State → Event → Kept → Type 0
 Extends C W E first s event after =
     (steps : List Step) (h : Hindrances) → C steps → (run steps (at_first first)).state ≡ s → after ≡ (happens h s event).state.kept → W h → E (steps ++ record { event = event; hindrances = h } ∷ [])
 
-pub so_served_none : (S : List JournalRecord → Counts → Type 0) (C : List Step → Type 0) (told : LinkTold) (kept : Kept) (seats : Seats) → seats ≡ [] → S [] none_counted → C []
+pub so_served_none : (S : List JournalRecord → TurnCounts → Type 0) (C : List Step → Type 0) (told : LinkTold) (kept : Kept) (seats : Seats) → seats ≡ [] → S [] none_counted → C []
     → SoSealed S C 0 told told kept (record { kept = kept; seats = seats })
 so_served_none S C told kept seats none seals course = record {
   served = record {
@@ -178,16 +178,16 @@ log_more old mid got new notes more x e f g =
     ∙ then_told-append old (notes ++ x ∷ []) more ∙ ap (then_told old) (append_assoc notes (x ∷ []) more)
 
 -- strings that one step more missed
-rose_more : (steps : List Step) (step : Step) (old mid got new : ℕ) → RoseBy (missed_in steps) old mid → got ≡ mid → RoseBy (missed_of step.hindrances.deliveries) got new
-    → RoseBy (missed_in (steps ++ step ∷ [])) old new
+rose_more : (steps : List Step) (step : Step) (old mid got new : ℕ) → RoseAtLeast (missed_in steps) old mid → got ≡ mid → RoseAtLeast (missed_of step.hindrances.deliveries) got new
+    → RoseAtLeast (missed_in (steps ++ step ∷ [])) old new
 rose_more steps step old mid got new before same more =
-    subst (λ n. RoseBy n old new) (sym (missed_more steps step))
-    (rose_add (missed_in steps) (missed_of step.hindrances.deliveries) old mid new before (subst (λ m. RoseBy (missed_of step.hindrances.deliveries) m new) same more))
+    subst (λ n. RoseAtLeast n old new) (sym (missed_more steps step))
+    (rose_add (missed_in steps) (missed_of step.hindrances.deliveries) old mid new before (subst (λ m. RoseAtLeast (missed_of step.hindrances.deliveries) m new) same more))
 
 -- strings that one step more left out, and calls that found no memory then
-starved_more : (steps : List Step) (step : Step) (n old mid got new : ℕ) → Counted (left_out_in steps + 0) old mid → got ≡ mid
+out_of_memory_more : (steps : List Step) (step : Step) (n old mid got new : ℕ) → Counted (left_out_in steps + 0) old mid → got ≡ mid
     → Counted (left_out_of step.hindrances.deliveries + n) got new → Counted (left_out_in (steps ++ step ∷ []) + n) old new
-starved_more steps step n old mid got new before same more =
+out_of_memory_more steps step n old mid got new before same more =
     let here = left_out_of step.hindrances.deliveries in
     let whole : (left_out_in steps + 0) + (here + n) ≡ (left_out_in steps + here) + n = omega arith in
     subst (λ k. Counted (k + n) old new) (sym (left_out_more steps step))
@@ -214,10 +214,10 @@ all_closed : (r : Result Bool WantOfMemory) (b : Bool) (n : ℕ) → r ≡ Ok b 
 all_closed r b n ok e = subst (λ (q : Result Bool WantOfMemory). MatchResult q (λ _. n ≡ 0) (λ _. Unit {0})) ok e
 
 -- what an event left undone for want of memory
-starved_in : (o : Outcome) (before : Kept) (n : ℕ) (new : LinkTold) (r : Result Bool WantOfMemory) (w : WantOfMemory) (all notes : List LinkNote) → r ≡ Err w
+out_of_memory_in : (o : Outcome) (before : Kept) (n : ℕ) (new : LinkTold) (r : Result Bool WantOfMemory) (w : WantOfMemory) (all notes : List LinkNote) → r ≡ Err w
     → MatchResult r (λ _. all ≡ notes) (λ _. (more : List LinkNote) × (all ≡ notes ++ more) × WantsIn o before n new notes more)
     → (more : List LinkNote) × (all ≡ notes ++ more) × WantsIn o before n new notes more
-starved_in o before n new r w all notes bad e =
+out_of_memory_in o before n new r w all notes bad e =
     subst (λ (q : Result Bool WantOfMemory). MatchResult q (λ _. all ≡ notes) (λ _. (more : List LinkNote) × (all ≡ notes ++ more) × WantsIn o before n new notes more)) bad e
 
 -- what an event left undone in which sealing failed: nothing, or what follows from a close on
@@ -257,7 +257,7 @@ done_more turns n old mid got new kept s event h more so came licensed goes =
           (order_more old.coming mid.coming got.coming (events_of so.steps) event done.order came.1));
       missed = rose_more so.steps step old.missed mid.missed got.missed new.missed done.missed came.3 licensed.rose;
       none_missed = λ e. none_more so.steps step (done.none_missed e) (licensed.reliable (came.4 ∙ done.reliable ∙ e));
-      starved = starved_more so.steps step n old.starved mid.starved got.starved new.starved done.starved came.6 licensed.starved;
+      out_of_memory = out_of_memory_more so.steps step n old.out_of_memory mid.out_of_memory got.out_of_memory new.out_of_memory done.out_of_memory came.6 licensed.out_of_memory;
       reliable = goes.reliable ∙ came.4 ∙ done.reliable;
       faults = goes.faults ∙ came.2 ∙ done.faults;
     }
@@ -273,8 +273,8 @@ here_is : (turns : ℕ) (old mid : LinkTold) (kept : Kept) (s : State) (step : S
 here_is turns old mid kept s step so = ap (λ (q : Outcome). happens step.hindrances q.state step.event) so.leaves
 
 -- serving ended after these steps
-ended_over : (T : List JournalRecord → Counts → Type 0) (C : List Step → Type 0) (limit wants : ℕ) (old new : LinkTold) (kept kept' : Kept) (steps : List Step) (notes : List LinkNote) (result : Result (Unit {0}) ServeFault)
-    → Done wants old new steps notes → Served limit wants steps kept notes kept' result → (wants ≡ 1 → new.starved_last ≡ true) → CountsFaults result old new
+ended_over : (T : List JournalRecord → TurnCounts → Type 0) (C : List Step → Type 0) (limit wants : ℕ) (old new : LinkTold) (kept kept' : Kept) (steps : List Step) (notes : List LinkNote) (result : Result (Unit {0}) ServeFault)
+    → Done wants old new steps notes → Served limit wants steps kept notes kept' result → (wants ≡ 1 → new.out_of_memory_last ≡ true) → CountsFaults result old new
     → AreSaid (readings_in steps kept) → T (unsealed_in steps kept) (counts_in steps kept) → C steps → Ran T C limit old new kept kept' result
 ended_over T C limit wants old new kept kept' steps notes result done served last faults read seals course = (
   steps,
@@ -286,8 +286,8 @@ ended_over T C limit wants old new kept kept' steps notes result done served las
     order = done.order;
     missed = done.missed;
     none_missed = done.none_missed;
-    starved = done.starved;
-    starved_last = last;
+    out_of_memory = done.out_of_memory;
+    out_of_memory_last = last;
     faults = faults;
     read = read;
   },
@@ -304,7 +304,7 @@ so_state : (turns : ℕ) (old new : LinkTold) (kept : Kept) (s : State) → (so 
 so_state turns old new kept s so = ap (λ (o : Outcome). o.state) so.leaves
 
 -- one step more
-pub so_more : (S T U : List JournalRecord → Counts → Type 0) (C : List Step → Type 0) (W : Hindrances → Type 0) (E : List Step → Type 0) (turns : ℕ) (old mid got new : LinkTold) (kept after : Kept) (s : State) (seats : Seats) (event : Event) (r : Result Bool WantOfMemory) (b : Bool)
+pub so_more : (S T U : List JournalRecord → TurnCounts → Type 0) (C : List Step → Type 0) (W : Hindrances → Type 0) (E : List Step → Type 0) (turns : ℕ) (old mid got new : LinkTold) (kept after : Kept) (s : State) (seats : Seats) (event : Event) (r : Result Bool WantOfMemory) (b : Bool)
     → SoSealed S C turns old mid kept s → Comes mid got (Ok event) → is_end event.what ≡ false
     → (h : Hindrances) × (n : ℕ) × AreLicensed h.deliveries n got new × Leads T n h.keeping s.kept (happens h s event) got new after seats r × W h
     → r ≡ Ok b → b ≡ false → Only T → Chains S T U → Extends C W E kept s event after
@@ -366,7 +366,7 @@ abbrev pub Stops : Event → Bool → Type 0
 Stops event b = (is_end event.what ≡ true) ⊎ ((is_end event.what ≡ false) × (b ≡ true))
 
 -- the end came, or a console asked serving to stop, and nothing was left unsealed
-pub so_stopped : (S T U : List JournalRecord → Counts → Type 0) (C : List Step → Type 0) (W : Hindrances → Type 0) (E : List Step → Type 0) (turns limit : ℕ) (old mid got new : LinkTold) (kept after : Kept) (s : State) (seats : Seats) (event : Event) (r : Result Bool WantOfMemory) (b : Bool)
+pub so_stopped : (S T U : List JournalRecord → TurnCounts → Type 0) (C : List Step → Type 0) (W : Hindrances → Type 0) (E : List Step → Type 0) (turns limit : ℕ) (old mid got new : LinkTold) (kept after : Kept) (s : State) (seats : Seats) (event : Event) (r : Result Bool WantOfMemory) (b : Bool)
     → SoSealed S C turns old mid kept s → turns < limit → Comes mid got (Ok event) → Stops event b
     → (h : Hindrances) × (n : ℕ) × AreLicensed h.deliveries n got new × Leads T n h.keeping s.kept (happens h s event) got new after seats r × W h
     → r ≡ Ok b → Only T → Chains S T U → Extends C W E kept s event after
@@ -393,7 +393,7 @@ so_stopped S T U C W E turns limit old mid got new kept after s seats event r b 
       few_more so.steps step turns limit so.count few,
       refl,
     )
-    (none_wanted new.starved_last) done.faults (read_more turns old mid kept s step so leads.read)
+    (none_wanted new.out_of_memory_last) done.faults (read_more turns old mid kept s step so leads.read)
     (subst (λ (q : Outcome). U q.unsealed q.counts) (sym leaves) (chain o.unsealed so.counts o.counts sealed.seals leads.seals))
     (extends so.steps h sealed.course (so_state turns old mid kept s so) leads.kept_is went)
   where
@@ -414,24 +414,24 @@ so_sealed turns old new kept s so = ap (λ (o : Outcome). o.unsealed) so.leaves
 
 -- `next` failed, or found no memory: nothing came
 done_still : (turns n : ℕ) (old mid got : LinkTold) (kept : Kept) (s : State) → (so : SoServed turns old mid kept s)
-    → got.log ≡ mid.log → got.coming ≡ mid.coming → got.missed ≡ mid.missed → Counted n mid.starved got.starved → got.is_reliable ≡ mid.is_reliable → got.faults ≡ mid.faults
+    → got.log ≡ mid.log → got.coming ≡ mid.coming → got.missed ≡ mid.missed → Counted n mid.out_of_memory got.out_of_memory → got.is_reliable ≡ mid.is_reliable → got.faults ≡ mid.faults
     → Done n old got so.steps so.notes
-done_still turns n old mid got kept s so log coming missed starved reliable faults =
+done_still turns n old mid got kept s so log coming missed out_of_memory reliable faults =
     let done = so.done in
     record {
       log = log ∙ done.log;
       order = subst (λ c. ComeInOrder old.coming (events_of so.steps) c) (sym coming) done.order;
-      missed = subst (λ k. RoseBy (missed_in so.steps) old.missed k) (sym missed) done.missed;
+      missed = subst (λ k. RoseAtLeast (missed_in so.steps) old.missed k) (sym missed) done.missed;
       none_missed = done.none_missed;
-      starved =
+      out_of_memory =
           let whole : (left_out_in so.steps + 0) + n ≡ left_out_in so.steps + n = omega arith in
-          subst (λ k. Counted k old.starved got.starved) whole (counted_add (left_out_in so.steps + 0) n old.starved mid.starved got.starved done.starved starved);
+          subst (λ k. Counted k old.out_of_memory got.out_of_memory) whole (counted_add (left_out_in so.steps + 0) n old.out_of_memory mid.out_of_memory got.out_of_memory done.out_of_memory out_of_memory);
       reliable = reliable ∙ done.reliable;
       faults = faults ∙ done.faults;
     }
 
 -- `next` failed
-pub so_unlinked : (S : List JournalRecord → Counts → Type 0) (C : List Step → Type 0) (turns limit : ℕ) (old mid got : LinkTold) (kept : Kept) (s : State)
+pub so_unlinked : (S : List JournalRecord → TurnCounts → Type 0) (C : List Step → Type 0) (turns limit : ℕ) (old mid got : LinkTold) (kept : Kept) (s : State)
     → SoSealed S C turns old mid kept s → turns < limit → Comes mid got (Err Failed) → Ran S C limit old got kept s.kept (Err Link)
 so_unlinked S C turns limit old mid got kept s sealed few came =
     let so = sealed.served in (
@@ -442,10 +442,10 @@ so_unlinked S C turns limit old mid got kept s sealed few came =
         served = (so_serves turns old mid kept s so, so.no_end, subst (λ n. n < limit) (sym so.count) few, so_sealed turns old mid kept s so, so_goes turns old mid kept s so, refl);
         log = ap (λ (t : LinkTold). t.log) came.0 ∙ so.done.log;
         order = subst (λ c. ComeInOrder old.coming (events_of so.steps) c) (sym (ap (λ (t : LinkTold). t.coming) came.0)) so.done.order;
-        missed = subst (λ n. RoseBy (missed_in so.steps) old.missed n) (sym (ap (λ (t : LinkTold). t.missed) came.0)) so.done.missed;
+        missed = subst (λ n. RoseAtLeast (missed_in so.steps) old.missed n) (sym (ap (λ (t : LinkTold). t.missed) came.0)) so.done.missed;
         none_missed = so.done.none_missed;
-        starved = subst (λ n. Counted (left_out_in so.steps + 0) old.starved n) (sym (ap (λ (t : LinkTold). t.starved) came.0)) so.done.starved;
-        starved_last = none_wanted got.starved_last;
+        out_of_memory = subst (λ n. Counted (left_out_in so.steps + 0) old.out_of_memory n) (sym (ap (λ (t : LinkTold). t.out_of_memory) came.0)) so.done.out_of_memory;
+        out_of_memory_last = none_wanted got.out_of_memory_last;
         faults = (
           subst (λ n. Rose n got.faults) so.done.faults came.1,
           sym so.done.reliable ∙ came.2,
@@ -459,12 +459,12 @@ so_unlinked S C turns limit old mid got kept s sealed few came =
     )
 
 -- `next` found no memory
-pub so_unfed : (S : List JournalRecord → Counts → Type 0) (C : List Step → Type 0) (turns limit : ℕ) (old mid got : LinkTold) (kept : Kept) (s : State)
+pub so_unfed : (S : List JournalRecord → TurnCounts → Type 0) (C : List Step → Type 0) (turns limit : ℕ) (old mid got : LinkTold) (kept : Kept) (s : State)
     → SoSealed S C turns old mid kept s → turns < limit → Comes mid got (Err NoneForNext) → Ran S C limit old got kept s.kept (Err NoMemory)
 so_unfed S C turns limit old mid got kept s sealed few (same, once) =
     let so = sealed.served in
     let done = done_still turns 1 old mid got kept s so (ap (λ (t : LinkTold). t.log) same) (ap (λ (t : LinkTold). t.coming) same) (ap (λ (t : LinkTold). t.missed) same)
-    (counted_one mid.starved got.starved once) (ap (λ (t : LinkTold). t.is_reliable) same) (ap (λ (t : LinkTold). t.faults) same) in
+    (counted_one mid.out_of_memory got.out_of_memory once) (ap (λ (t : LinkTold). t.is_reliable) same) (ap (λ (t : LinkTold). t.faults) same) in
     ended_over S C limit 1 old got kept s.kept so.steps so.notes (Err NoMemory) done (
       [],
       record { notes_are = append-nil so.notes ∙ (so_serves turns old mid kept s so).notes_are; kept_is = (so_serves turns old mid kept s so).kept_is },
@@ -474,16 +474,16 @@ so_unfed S C turns limit old mid got kept s sealed few (same, once) =
       omega (arith, so.count, few),
       inl (so_goes turns old mid kept s so),
     )
-    (λ _. ap (λ (t : LinkTold). t.starved_last) same) done.faults (so_read turns old mid kept s so) (subst (λ (o : Outcome). S o.unsealed o.counts) (sym so.leaves) sealed.seals) sealed.course
+    (λ _. ap (λ (t : LinkTold). t.out_of_memory_last) same) done.faults (so_read turns old mid kept s so) (subst (λ (o : Outcome). S o.unsealed o.counts) (sym so.leaves) sealed.seals) sealed.course
 
 -- so many events were taken
-pub so_spent : (S : List JournalRecord → Counts → Type 0) (C : List Step → Type 0) (turns limit : ℕ) (old new : LinkTold) (kept : Kept) (s : State)
+pub so_spent : (S : List JournalRecord → TurnCounts → Type 0) (C : List Step → Type 0) (turns limit : ℕ) (old new : LinkTold) (kept : Kept) (s : State)
     → SoSealed S C turns old new kept s → turns ≡ limit → Ran S C limit old new kept s.kept (Err Turns)
 so_spent S C turns limit old new kept s sealed all =
     let so = sealed.served in
     ended_over S C limit 0 old new kept s.kept so.steps so.notes (Err Turns) so.done
     (so_serves turns old new kept s so, so.no_end, so.count ∙ all, so_sealed turns old new kept s so, so_goes turns old new kept s so, refl)
-    (none_wanted new.starved_last) so.done.faults (so_read turns old new kept s so) (subst (λ (o : Outcome). S o.unsealed o.counts) (sym so.leaves) sealed.seals) sealed.course
+    (none_wanted new.out_of_memory_last) so.done.faults (so_read turns old new kept s so) (subst (λ (o : Outcome). S o.unsealed o.counts) (sym so.leaves) sealed.seals) sealed.course
 
 -- ---- and within one
 
@@ -501,10 +501,10 @@ cut_at_close turns n old mid new kept s step notes more so all one passed stops 
 }
 
 -- how memory was wanted in the last step
-left_starved : (turns n : ℕ) (old mid new : LinkTold) (kept : Kept) (s : State) (step : Step) (notes more : List LinkNote) → (so : SoServed turns old mid kept s)
+left_out_of_memory : (turns n : ℕ) (old mid new : LinkTold) (kept : Kept) (s : State) (step : Step) (notes more : List LinkNote) → (so : SoServed turns old mid kept s)
     → (happens step.hindrances s step.event).notes ≡ notes ++ more → WantsIn (happens step.hindrances s step.event) s.kept n new notes more
-    → step.hindrances.keeping ≡ IsPassed → IsLeftStarved n (so.steps ++ step ∷ []) kept more × (n ≡ 1 → new.starved_last ≡ true)
-left_starved turns n old mid new kept s step notes more so all (inl (none, zero, sealed, quiet, undone)) passed = (
+    → step.hindrances.keeping ≡ IsPassed → IsLeftOutOfMemory n (so.steps ++ step ∷ []) kept more × (n ≡ 1 → new.out_of_memory_last ≡ true)
+left_out_of_memory turns n old mid new kept s step notes more so all (inl (none, zero, sealed, quiet, undone)) passed = (
   inr (inl (
     record {
       of_last = record {
@@ -518,34 +518,34 @@ left_starved turns n old mid new kept s step notes more so all (inl (none, zero,
     },
     zero,
   )),
-  λ one. none_wanted new.starved_last (sym zero ∙ one),
+  λ one. none_wanted new.out_of_memory_last (sym zero ∙ one),
 )
-left_starved turns n old mid new kept s step notes more so all (inr (one, stops)) passed =
-    (inr (inr (cut_at_close turns n old mid new kept s step notes more so all one passed stops)), λ _. stops.starved_last)
+left_out_of_memory turns n old mid new kept s step notes more so all (inr (one, stops)) passed =
+    (inr (inr (cut_at_close turns n old mid new kept s step notes more so all one passed stops)), λ _. stops.out_of_memory_last)
 
 -- what was left undone where sealing failed in the last step
 left_unsealed : (turns n : ℕ) (old mid new : LinkTold) (kept : Kept) (s : State) (step : Step) (notes more : List LinkNote) → (so : SoServed turns old mid kept s)
     → (happens step.hindrances s step.event).notes ≡ notes ++ more → ((more ≡ []) × (n ≡ 0)) ⊎ ((n ≡ 1) × (step.hindrances.keeping ≡ IsPassed) × StopsAtClose more new)
-    → IsLeftUnsealed n (so.steps ++ step ∷ []) kept more × (n ≡ 1 → new.starved_last ≡ true)
-left_unsealed turns n old mid new kept s step notes more so all (inl none) = (inl none, λ one. none_wanted new.starved_last (sym none.1 ∙ one))
+    → IsLeftUnsealed n (so.steps ++ step ∷ []) kept more × (n ≡ 1 → new.out_of_memory_last ≡ true)
+left_unsealed turns n old mid new kept s step notes more so all (inl none) = (inl none, λ one. none_wanted new.out_of_memory_last (sym none.1 ∙ one))
 left_unsealed turns n old mid new kept s step notes more so all (inr (one, passed, stops)) =
-    (inr (cut_at_close turns n old mid new kept s step notes more so all one passed stops), λ _. stops.starved_last)
+    (inr (cut_at_close turns n old mid new kept s step notes more so all one passed stops), λ _. stops.out_of_memory_last)
 
 -- memory was wanted in an event
-pub so_starved : (S T U : List JournalRecord → Counts → Type 0) (C : List Step → Type 0) (W : Hindrances → Type 0) (E : List Step → Type 0) (turns limit : ℕ) (old mid got new : LinkTold) (kept after : Kept) (s : State) (seats : Seats) (event : Event) (r : Result Bool WantOfMemory) (w : WantOfMemory)
+pub so_out_of_memory : (S T U : List JournalRecord → TurnCounts → Type 0) (C : List Step → Type 0) (W : Hindrances → Type 0) (E : List Step → Type 0) (turns limit : ℕ) (old mid got new : LinkTold) (kept after : Kept) (s : State) (seats : Seats) (event : Event) (r : Result Bool WantOfMemory) (w : WantOfMemory)
     → SoSealed S C turns old mid kept s → turns < limit → Comes mid got (Ok event) → is_end event.what ≡ false
     → (h : Hindrances) × (n : ℕ) × AreLicensed h.deliveries n got new × Leads T n h.keeping s.kept (happens h s event) got new after seats r × W h
     → r ≡ Err w → Only T → Chains S T U → Extends C W E kept s event after
     → Ran U E limit old new kept after (Err NoMemory)
-so_starved S T U C W E turns limit old mid got new kept after s seats event r w sealed few came goes (h, n, licensed, leads, went) bad only chain extends =
+so_out_of_memory S T U C W E turns limit old mid got new kept after s seats event r w sealed few came goes (h, n, licensed, leads, went) bad only chain extends =
     let so = sealed.served in
     let step : Step = record { event = event; hindrances = h } in
     let o = happens h s event in
     let did = leads.did in
-    let (more, all, wants) = starved_in o s.kept n new r w o.notes did.notes bad did.whole in
+    let (more, all, wants) = out_of_memory_in o s.kept n new r w o.notes did.notes bad did.whole in
     let leaves = leaves_more turns old mid kept s step so in
     let done = done_more turns n old mid got new kept s event h did.notes so came licensed did.goes in
-    let left = left_starved turns n old mid new kept s step did.notes more so all wants (none_kept r w h.keeping bad leads.passed) in
+    let left = left_out_of_memory turns n old mid new kept s step did.notes more so all wants (none_kept r w h.keeping bad leads.passed) in
     ended_over U E limit n old new kept after (so.steps ++ step ∷ []) (so.notes ++ Came event ∷ did.notes) (Err NoMemory) done (
       more,
       serves_more turns old mid kept after s step did.notes more so leads.kept_is all,
@@ -560,7 +560,7 @@ so_starved S T U C W E turns limit old mid got new kept after s seats event r w 
     (extends so.steps h sealed.course (so_state turns old mid kept s so) leads.kept_is went)
 
 -- sealing failed in an event
-pub so_failed : (S T U : List JournalRecord → Counts → Type 0) (C : List Step → Type 0) (W : Hindrances → Type 0) (E : List Step → Type 0) (turns limit : ℕ) (old mid got new : LinkTold) (kept after : Kept) (s : State) (seats : Seats) (event : Event) (r : Result Bool WantOfMemory)
+pub so_failed : (S T U : List JournalRecord → TurnCounts → Type 0) (C : List Step → Type 0) (W : Hindrances → Type 0) (E : List Step → Type 0) (turns limit : ℕ) (old mid got new : LinkTold) (kept after : Kept) (s : State) (seats : Seats) (event : Event) (r : Result Bool WantOfMemory)
     → SoSealed S C turns old mid kept s → turns < limit → Comes mid got (Ok event)
     → (h : Hindrances) × (n : ℕ) × AreLicensed h.deliveries n got new × Leads T n h.keeping s.kept (happens h s event) got new after seats r × W h
     → Fails T → Chains S T U → Extends C W E kept s event after
@@ -594,7 +594,7 @@ so_failed S T U C W E turns limit old mid got new kept after s seats event r sea
     (extends so.steps h sealed.course (so_state turns old mid kept s so) leads.kept_is went)
 
 -- the end came, and the snapshot that was due then was sealed or left out, or its sealing failed
-pub so_ended : (S T U : List JournalRecord → Counts → Type 0) (C : List Step → Type 0) (W : Hindrances → Type 0) (E : List Step → Type 0) (turns limit : ℕ) (old mid got : LinkTold) (kept after : Kept) (s : State) (event : Event)
+pub so_ended : (S T U : List JournalRecord → TurnCounts → Type 0) (C : List Step → Type 0) (W : Hindrances → Type 0) (E : List Step → Type 0) (turns limit : ℕ) (old mid got : LinkTold) (kept after : Kept) (s : State) (event : Event)
     (closed : Bool) (result : Result (Unit {0}) ServeFault)
     → SoSealed S C turns old mid kept s → turns < limit → Comes mid got (Ok event) → is_end event.what ≡ true
     → (h : Hindrances) × (n : ℕ) × AreLicensed h.deliveries n got got × Leads T n h.keeping s.kept (happens h s event) got got after s.seats (Ok false) × W h

@@ -2,8 +2,8 @@
 use Rattle.std.specs.Prelude.{if◌then◌else◌}
 use Rattle.std.proofs.Common.{◌≡◌, ◌≢◌, ℕ, ◌+◌, arith, add-zero, zero-add, Bool, true, false, not, nat_le, ◌||◌, ◌&&◌, List, [], ◌∷◌, ◌++◌, None, Some, Option, MatchOption, Result, Ok, Err, IfOk, IfErr, OnErr, OnOk, inl, inr, ◌⊎◌, refl, ap, sym, subst, ◌∙◌}
 use Rattle.undo_base.specs.declared.keys.User.{User}
-use Rattle.undo_outside.specs.Disk.{DiskTold, ReadFailed, WriteStarved}
-use Rattle.seal_log.specs.Causes.{Fed, SealWants, Starves}
+use Rattle.undo_outside.specs.Disk.{DiskTold, ReadFailed, WriteOutOfMemory}
+use Rattle.seal_log.specs.Causes.{FindsMemory, SealWants, RunsOutOfMemory}
 use Rattle.verb_core.specs.declared.ask.Ask.{Ask}
 use Rattle.verb_core.specs.declared.ask.Refused.{Refused}
 use Rattle.verb_core.specs.declared.ask.Refused.TheVariants.{NoMemory}
@@ -20,7 +20,7 @@ use Rattle.store_kept.specs.Kept.{Kept, snapshotted, store_of}
 use Rattle.mail_desk.specs.Desk.{submitted}
 use Rattle.desk_journal.specs.Lasting.{Lasting, IsUnwritten}
 use Rattle.desk_journal.specs.Reading.{HaveRead, IsStill, Reads, ReadsWell, both_read, failed_once, none_read, wrong_once}
-use Rattle.mail_loop.specs.Counts.{Counts, HaveCounted, both_counted, none_counted, read_so, wanting}
+use Rattle.mail_loop.specs.TurnCounts.{TurnCounts, HaveCounted, both_counted, none_counted, read_so, wanting}
 use Rattle.desk_journal.specs.Sealing.{Seals}
 use Rattle.desk_journal.specs.Stored.{HoldsTexts}
 use Rattle.desk_journal.specs.Records.{snapshot_record}
@@ -28,32 +28,32 @@ use Rattle.desk_journal.specs.Submitting.{SnapshotsNone, SubmitWants, SubmitsNon
 use Rattle.mail_loop.specs.declared.reply.Reply.{Reply}
 use Rattle.mail_loop.specs.Asked.{HaveSealed}
 use Rattle.mail_loop.specs.Turn.{Turn}
-use Rattle.mail_loop.specs.Machine.{Keeping, IsKept, IsPassed, IsUnkept, IsStarved, unwritten_by}
+use Rattle.mail_loop.specs.Machine.{Keeping, IsKept, IsPassed, IsUnkept, IsOutOfMemory, unwritten_by}
 use Rattle.mail_loop.specs.Did.{Keeps, is_due_on, kept_by, unkept_by}
 use Rattle.mail_loop.specs.Took.{IsNone, Submits, Takes, Wrote}
 use Rattle.mail_loop.proofs.Links.{counted_add, counted_none, counted_one}
 
 -- ---- what was counted, turn after turn
 
-pub no_more : (c : Counts) → both_counted none_counted c ≡ c
-no_more c = λ j. record { reads = record { failed = zero-add c.reads.failed j; wrong = zero-add c.reads.wrong j }; starved = zero-add c.starved j }
+pub no_more : (c : TurnCounts) → both_counted none_counted c ≡ c
+no_more c = λ j. record { reads = record { failed = zero-add c.reads.failed j; wrong = zero-add c.reads.wrong j }; out_of_memory = zero-add c.out_of_memory j }
 
-pub none_before : (c : Counts) → both_counted c none_counted ≡ c
-none_before c = λ j. record { reads = record { failed = add-zero c.reads.failed j; wrong = add-zero c.reads.wrong j }; starved = add-zero c.starved j }
+pub none_before : (c : TurnCounts) → both_counted c none_counted ≡ c
+none_before c = λ j. record { reads = record { failed = add-zero c.reads.failed j; wrong = add-zero c.reads.wrong j }; out_of_memory = add-zero c.out_of_memory j }
 
-pub counts_regroup : (a b c : Counts) → both_counted (both_counted a b) c ≡ both_counted a (both_counted b c)
+pub counts_regroup : (a b c : TurnCounts) → both_counted (both_counted a b) c ≡ both_counted a (both_counted b c)
 counts_regroup a b c =
     let failed : (a.reads.failed + b.reads.failed) + c.reads.failed ≡ a.reads.failed + (b.reads.failed + c.reads.failed) = omega arith in
     let wrong : (a.reads.wrong + b.reads.wrong) + c.reads.wrong ≡ a.reads.wrong + (b.reads.wrong + c.reads.wrong) = omega arith in
-    let starved : (a.starved + b.starved) + c.starved ≡ a.starved + (b.starved + c.starved) = omega arith in
-    λ j. record { reads = record { failed = failed j; wrong = wrong j }; starved = starved j }
+    let out_of_memory : (a.out_of_memory + b.out_of_memory) + c.out_of_memory ≡ a.out_of_memory + (b.out_of_memory + c.out_of_memory) = omega arith in
+    λ j. record { reads = record { failed = failed j; wrong = wrong j }; out_of_memory = out_of_memory j }
 
 -- behind what was counted before, where a snapshot is due and where none is
-pub added_if : (due : Bool) (c : Counts) (n : ℕ) → both_counted c (if due then wanting n else none_counted) ≡ (if due then both_counted c (wanting n) else c)
+pub added_if : (due : Bool) (c : TurnCounts) (n : ℕ) → both_counted c (if due then wanting n else none_counted) ≡ (if due then both_counted c (wanting n) else c)
 added_if true c n = refl
 added_if false c n = none_before c
 
-pub wanting_if : (due : Bool) (n : ℕ) → (if due then wanting n else none_counted).starved ≡ (if due then n else 0)
+pub wanting_if : (due : Bool) (n : ℕ) → (if due then wanting n else none_counted).out_of_memory ≡ (if due then n else 0)
 wanting_if true n = refl
 wanting_if false n = refl
 
@@ -104,25 +104,25 @@ module _ {D : Type 0} (told : D → DiskTold) where
 
   -- each write found memory, or the last one that was made found none
   abbrev pub Wants : Lasting D → Lasting D → Type 0
-  Wants a b = Fed (told a.disk) (told b.disk) ⊎ WriteStarved (told a.disk) (told b.disk)
+  Wants a b = FindsMemory (told a.disk) (told b.disk) ⊎ WriteOutOfMemory (told a.disk) (told b.disk)
 
   -- where no memory was found
-  wants_of : (a b : Lasting D) → Starves told a.disk b.disk → Wants a b
-  wants_of a b (inl same) = inl (ap (λ (d : D). (told d).starved) same)
-  wants_of a b (inr starved) = inr starved
+  wants_of : (a b : Lasting D) → RunsOutOfMemory told a.disk b.disk → Wants a b
+  wants_of a b (inl same) = inl (ap (λ (d : D). (told d).out_of_memory) same)
+  wants_of a b (inr out_of_memory) = inr out_of_memory
 
   -- no read failed, and each write found memory
-  pub nothing_counted : (a b : Lasting D) → ReadsWell told a b → Fed (told a.disk) (told b.disk) → HaveCounted told a b none_counted
-  nothing_counted a b well fed = record { reads = nothing_read a b well; starved = counted_none (told a.disk).starved (told b.disk).starved fed }
+  pub nothing_counted : (a b : Lasting D) → ReadsWell told a b → FindsMemory (told a.disk) (told b.disk) → HaveCounted told a b none_counted
+  nothing_counted a b well finds_memory = record { reads = nothing_read a b well; out_of_memory = counted_none (told a.disk).out_of_memory (told b.disk).out_of_memory finds_memory }
 
   -- or the last one found none
-  starved_counted : (a b : Lasting D) → ReadsWell told a b → WriteStarved (told a.disk) (told b.disk) → HaveCounted told a b (wanting 1)
-  starved_counted a b well wants = record { reads = nothing_read a b well; starved = counted_one (told a.disk).starved (told b.disk).starved wants.0 }
+  out_of_memory_counted : (a b : Lasting D) → ReadsWell told a b → WriteOutOfMemory (told a.disk) (told b.disk) → HaveCounted told a b (wanting 1)
+  out_of_memory_counted a b well wants = record { reads = nothing_read a b well; out_of_memory = counted_one (told a.disk).out_of_memory (told b.disk).out_of_memory wants.0 }
 
-  counts_join : (added : List JournalRecord) (a b c : Lasting D) (r s : Counts) → Seals told added [] a b → HaveCounted told a b r → HaveCounted told b c s → HaveCounted told a c (both_counted r s)
+  counts_join : (added : List JournalRecord) (a b c : Lasting D) (r s : TurnCounts) → Seals told added [] a b → HaveCounted told a b r → HaveCounted told b c s → HaveCounted told a c (both_counted r s)
   counts_join added a b c r s seals first second = record {
     reads = reads_join added a b c r.reads s.reads seals first.reads second.reads;
-    starved = counted_add r.starved s.starved (told a.disk).starved (told b.disk).starved (told c.disk).starved first.starved second.starved;
+    out_of_memory = counted_add r.out_of_memory s.out_of_memory (told a.disk).out_of_memory (told b.disk).out_of_memory (told c.disk).out_of_memory first.out_of_memory second.out_of_memory;
   }
 
   -- ---- counts and seals
@@ -135,7 +135,7 @@ module _ {D : Type 0} (told : D → DiskTold) where
 
   -- the desk was read alone, and no read failed
   pub still_sealed : Still → (a b : Lasting D) → IsStill told a b → ReadsWell told a b → HaveSealed told a b [] none_counted
-  still_sealed still a b is well = ([], still a b is, nothing_counted a b well is.reads.fed)
+  still_sealed still a b is well = ([], still a b is, nothing_counted a b well is.reads.finds_memory)
 
   -- and a read failed
   pub failed_sealed : Still → (a b : Lasting D) → IsStill told a b → ReadFailed (told a.disk) (told b.disk) → HaveSealed told a b [] (read_so failed_once)
@@ -148,39 +148,39 @@ module _ {D : Type 0} (told : D → DiskTold) where
         reliable = λ e. absurd (let wrong : true ≡ false = sym e ∙ unreliable in cc);
         honest = λ _. refl;
       };
-      starved = counted_none (told a.disk).starved (told b.disk).starved is.reads.fed;
+      out_of_memory = counted_none (told a.disk).out_of_memory (told b.disk).out_of_memory is.reads.finds_memory;
     },
   )
 
   -- another text was given, of a disk that did not hold it
   pub wrong_sealed : (a b : Lasting D) (failed : List JournalRecord) (n : ℕ) → (HoldsTexts told a → ⊥) → HaveSealed told a b failed (wanting n)
-      → HaveSealed told a b failed (record { reads = wrong_once; starved = n })
+      → HaveSealed told a b failed (record { reads = wrong_once; out_of_memory = n })
   wrong_sealed a b failed n other (added, seals, counted) =
-      (added, seals, record { reads = record { failed = counted.reads.failed; reliable = counted.reads.reliable; honest = λ e. absurd (other e) }; starved = counted.starved })
+      (added, seals, record { reads = record { failed = counted.reads.failed; reliable = counted.reads.reliable; honest = λ e. absurd (other e) }; out_of_memory = counted.out_of_memory })
 
-  pub chained : Then → (a b c : Lasting D) (failed : List JournalRecord) (r s : Counts) → HaveSealed told a b [] r → HaveSealed told b c failed s → HaveSealed told a c failed (both_counted r s)
+  pub chained : Then → (a b c : Lasting D) (failed : List JournalRecord) (r s : TurnCounts) → HaveSealed told a b [] r → HaveSealed told b c failed s → HaveSealed told a c failed (both_counted r s)
   chained join a b c failed r s (added, first, counted) (more, second, counts) = (added ++ more, join added more failed a b c first second, counts_join added a b c r s first counted counts)
 
   -- nothing was counted before
-  pub chained_after : Then → (a b c : Lasting D) (failed : List JournalRecord) (s : Counts) → HaveSealed told a b [] none_counted → HaveSealed told b c failed s → HaveSealed told a c failed s
-  chained_after join a b c failed s first second = subst (λ (r : Counts). HaveSealed told a c failed r) (no_more s) (chained join a b c failed none_counted s first second)
+  pub chained_after : Then → (a b c : Lasting D) (failed : List JournalRecord) (s : TurnCounts) → HaveSealed told a b [] none_counted → HaveSealed told b c failed s → HaveSealed told a c failed s
+  chained_after join a b c failed s first second = subst (λ (r : TurnCounts). HaveSealed told a c failed r) (no_more s) (chained join a b c failed none_counted s first second)
 
   -- a desk that seals all stays open
-  pub still_open : (a b : Lasting D) (r : Counts) → a.closed ≡ false → HaveSealed told a b [] r → b.closed ≡ false
+  pub still_open : (a b : Lasting D) (r : TurnCounts) → a.closed ≡ false → HaveSealed told a b [] r → b.closed ≡ false
   still_open a b r open' (added, seals, read) = seals.closed ∙ ap (λ (c : Bool). c || false) open'
 
   -- a desk that is open after it sealed all
-  pub all_sealed : (a b : Lasting D) (failed : List JournalRecord) (r : Counts) → a.closed ≡ false → b.closed ≡ false → HaveSealed told a b failed r → failed ≡ []
+  pub all_sealed : (a b : Lasting D) (failed : List JournalRecord) (r : TurnCounts) → a.closed ≡ false → b.closed ≡ false → HaveSealed told a b failed r → failed ≡ []
   all_sealed a b [] r before after seals = refl
   all_sealed a b (x ∷ xs) r before after (added, seals, read) = absurd (let wrong : true ≡ false = sym (seals.closed ∙ ap (λ (c : Bool). c || true) before) ∙ after in cc)
 
   -- a desk that is closed after it failed to seal something
-  pub some_unsealed : (a b : Lasting D) (failed : List JournalRecord) (r : Counts) → a.closed ≡ false → b.closed ≡ true → HaveSealed told a b failed r → failed ≢ []
+  pub some_unsealed : (a b : Lasting D) (failed : List JournalRecord) (r : TurnCounts) → a.closed ≡ false → b.closed ≡ true → HaveSealed told a b failed r → failed ≢ []
   some_unsealed a b failed r before after (added, seals, read) none =
       let wrong : true ≡ false = sym after ∙ seals.closed ∙ ap (λ (c : Bool). c || not (is_empty failed)) before ∙ ap (λ (f : List JournalRecord). false || not (is_empty f)) none in cc
 
   -- what was sealed before a snapshot that is due, and with it
-  pub kept_sealed : Then → (a b c : Lasting D) (failed unkept : List JournalRecord) (r : Counts) (n : ℕ) (due : Bool) → a.closed ≡ false → HaveSealed told a b failed r
+  pub kept_sealed : Then → (a b c : Lasting D) (failed unkept : List JournalRecord) (r : TurnCounts) (n : ℕ) (due : Bool) → a.closed ≡ false → HaveSealed told a b failed r
       → HaveSealed told b c (if not b.closed && due then unkept else []) (if not b.closed && due then wanting n else none_counted) → (b.closed ≡ true → c ≡ b)
       → HaveSealed told a c (if not b.closed && due then unkept else failed) (if not b.closed && due then both_counted r (wanting n) else r)
   kept_sealed join a b c failed unkept r n due open' first second stays =
@@ -189,13 +189,13 @@ module _ {D : Type 0} (told : D → DiskTold) where
         | true ↦ λ e more. subst (λ (d : Lasting D). HaveSealed told a d failed r) (sym (stays e)) first
         | false ↦ λ e more.
             let none = all_sealed a b failed r open' e first in
-            let whole = subst (λ (q : Counts). HaveSealed told a c (if due then unkept else []) q) (added_if due r n)
+            let whole = subst (λ (q : TurnCounts). HaveSealed told a c (if due then unkept else []) q) (added_if due r n)
             (chained join a b c (if due then unkept else []) r (if due then wanting n else none_counted) (subst (λ (f : List JournalRecord). HaveSealed told a b f r) none first) more) in
             subst (λ (f : List JournalRecord). HaveSealed told a c (if due then unkept else f) (if due then both_counted r (wanting n) else r)) (sym none) whole
       ] refl second
 
   -- an open desk that sealed all is open, and no other
-  pub open_as : (a b : Lasting D) (failed : List JournalRecord) (r : Counts) → a.closed ≡ false → HaveSealed told a b failed r → not b.closed ≡ is_empty failed
+  pub open_as : (a b : Lasting D) (failed : List JournalRecord) (r : TurnCounts) → a.closed ≡ false → HaveSealed told a b failed r → not b.closed ≡ is_empty failed
   open_as a b failed r open' (added, seals, read) =
       ap not (seals.closed ∙ ap (λ (c : Bool). c || not (is_empty failed)) open') ∙ twice (is_empty failed)
     where
@@ -234,8 +234,8 @@ module _ {D : Type 0} (told : D → DiskTold) where
   }
 
   -- it was taken
-  pub snapshot_keeps : (a b : Lasting D) → is_due_on a ≡ true → b.kept ≡ snapshotted a.kept → Seals told (snapshot_record a.kept ∷ []) [] a b → ReadsWell told a b → Fed (told a.disk) (told b.disk) → Keeps told IsKept a b
-  snapshot_keeps a b e kept seals well fed = due_keeps IsKept a b e (open_due a e) kept (snapshot_record a.kept ∷ [], seals, nothing_counted a b well fed)
+  pub snapshot_keeps : (a b : Lasting D) → is_due_on a ≡ true → b.kept ≡ snapshotted a.kept → Seals told (snapshot_record a.kept ∷ []) [] a b → ReadsWell told a b → FindsMemory (told a.disk) (told b.disk) → Keeps told IsKept a b
+  snapshot_keeps a b e kept seals well finds_memory = due_keeps IsKept a b e (open_due a e) kept (snapshot_record a.kept ∷ [], seals, nothing_counted a b well finds_memory)
 
   -- it was not
   pub snapshot_passed : {X : Type 0} → (a b : Lasting D) (f : SealFault) → is_due_on a ≡ true → b.kept ≡ a.kept → SnapshotsNone told a b f → ReadsWell told a b
@@ -244,30 +244,30 @@ module _ {D : Type 0} (told : D → DiskTold) where
   snapshot_passed a b seal_fault.NoMemory e kept (open', seals) well wants = by_wants (wants_of a b (wants.no_memory refl))
     where
       by_wants : Wants a b → (k : Keeping) × Keeps told k a b
-      by_wants (inl fed) = (IsPassed, due_keeps IsPassed a b e open' kept ([], seals, nothing_counted a b well fed))
-      by_wants (inr starved) = (IsStarved, due_keeps IsStarved a b e open' kept ([], seals, starved_counted a b well starved))
+      by_wants (inl finds_memory) = (IsPassed, due_keeps IsPassed a b e open' kept ([], seals, nothing_counted a b well finds_memory))
+      by_wants (inr out_of_memory) = (IsOutOfMemory, due_keeps IsOutOfMemory a b e open' kept ([], seals, out_of_memory_counted a b well out_of_memory))
   snapshot_passed a b seal_fault.Closed e kept (shut, same) well wants = absurd (let wrong : true ≡ false = sym shut ∙ open_due a e in cc)
 
 -- where no sealing failed and nothing was counted
-pub none_sealed : (S : List JournalRecord → Counts → Type 0) (failed : List JournalRecord) (r : Counts) → IsNone failed r → S [] none_counted → S failed r
-none_sealed S failed r (none, quiet) holds = subst (λ (f : List JournalRecord). S f r) (sym none) (subst (λ (q : Counts). S [] q) (sym quiet) holds)
+pub none_sealed : (S : List JournalRecord → TurnCounts → Type 0) (failed : List JournalRecord) (r : TurnCounts) → IsNone failed r → S [] none_counted → S failed r
+none_sealed S failed r (none, quiet) holds = subst (λ (f : List JournalRecord). S f r) (sym none) (subst (λ (q : TurnCounts). S [] q) (sym quiet) holds)
 
 -- where a connection stays open after a turn no sealing failed in it
-pub none_unsealed : {D : Type 0} → (S : List JournalRecord → Counts → Type 0) (t : Turn D) (old : Reply) (kept : Kept) (d : D) (new : Reply) → Takes S t old kept d new → new.closes ≡ false → S [] t.counts
+pub none_unsealed : {D : Type 0} → (S : List JournalRecord → TurnCounts → Type 0) (t : Turn D) (old : Reply) (kept : Kept) (d : D) (new : Reply) → Takes S t old kept d new → new.closes ≡ false → S [] t.counts
 none_unsealed {D} S t old kept d new takes stays = subst (λ (failed : List JournalRecord). S failed t.counts) (by_dialog t.dialog takes.dialog_is) takes.seals
   where
     by_dialog : (o : Option D) → MatchOption o (new.closes ≡ true) (λ e. (d ≡ e) × (new.closes ≡ false) × (t.unsealed ≡ [])) → t.unsealed ≡ []
     by_dialog None shut = absurd (let wrong : true ≡ false = sym shut ∙ stays in cc)
     by_dialog (Some e) goes = goes.2
 
-sealed_of : {D : Type 0} → (told : D → DiskTold) (added failed : List JournalRecord) (a b : Lasting D) → ReadsWell told a b → Fed (told a.disk) (told b.disk) → Seals told added failed a b
+sealed_of : {D : Type 0} → (told : D → DiskTold) (added failed : List JournalRecord) (a b : Lasting D) → ReadsWell told a b → FindsMemory (told a.disk) (told b.disk) → Seals told added failed a b
     → HaveSealed told a b failed none_counted
-sealed_of told added failed a b well fed seals = (added, seals, nothing_counted told a b well fed)
+sealed_of told added failed a b well finds_memory seals = (added, seals, nothing_counted told a b well finds_memory)
 
 -- what was written for an ask that is refused
 refused_wrote : {D : Type 0} → (told : D → DiskTold) (why : Refused) (a b : Lasting D) → ReadsWell told a b → Seals told [] [] a b → SubmitWants told a.disk b.disk (IsRefused why) → Wrote (HaveSealed told a b) why
-refused_wrote {D} told why a b well seals (inl same) = inl (sealed_of told [] [] a b well (ap (λ (d : D). (told d).starved) same) seals)
-refused_wrote told why a b well seals (inr (is, starved)) = inr (is, ([], seals, starved_counted told a b well starved))
+refused_wrote {D} told why a b well seals (inl same) = inl (sealed_of told [] [] a b well (ap (λ (d : D). (told d).out_of_memory) same) seals)
+refused_wrote told why a b well seals (inr (is, out_of_memory)) = inr (is, ([], seals, out_of_memory_counted told a b well out_of_memory))
 
 -- what the desk did of an ask
 pub did_submit : {D : Type 0} → (told : D → DiskTold) (at : ℕ) (by : Option User) (ask : Ask) (old new : Lasting D) (result : Result Item SubmitFault) → old.closed ≡ false → ReadsWell told old new
@@ -275,10 +275,10 @@ pub did_submit : {D : Type 0} → (told : D → DiskTold) (at : ℕ) (by : Optio
     → IfOk result (λ item. Seals told (Verb item ∷ []) [] old new)
     → OnErr result (new.kept ≡ old.kept)
     → IfErr result (λ fault. SubmitsNone told (live (store_of old.kept) old.kept.next at by ask old.kept.deep) old new fault)
-    → OnOk result (Fed (told old.disk) (told new.disk))
+    → OnOk result (FindsMemory (told old.disk) (told new.disk))
     → IfErr result (λ fault. SubmitWants told old.disk new.disk fault)
     → Submits (HaveSealed told old new) at old.kept by ask new.kept result
-did_submit told at by ask old new (Ok item) open' well ok seals err why fed wants = (ok, sealed_of told (Verb item ∷ []) [] old new well fed seals)
-did_submit told at by ask old new (Err (IsRefused r)) open' well ok seals err why fed wants = (why.1, err, refused_wrote told r old new well why.2 wants)
-did_submit told at by ask old new (Err Disk) open' well ok seals err why fed wants = (why.1.0, why.1.1, err, sealed_of told [] (Verb why.1.0 ∷ []) old new well wants why.1.2)
-did_submit told at by ask old new (Err Closed) open' well ok seals err why fed wants = absurd (let wrong : true ≡ false = sym why.0 ∙ open' in cc)
+did_submit told at by ask old new (Ok item) open' well ok seals err why finds_memory wants = (ok, sealed_of told (Verb item ∷ []) [] old new well finds_memory seals)
+did_submit told at by ask old new (Err (IsRefused r)) open' well ok seals err why finds_memory wants = (why.1, err, refused_wrote told r old new well why.2 wants)
+did_submit told at by ask old new (Err Disk) open' well ok seals err why finds_memory wants = (why.1.0, why.1.1, err, sealed_of told [] (Verb why.1.0 ∷ []) old new well wants why.1.2)
+did_submit told at by ask old new (Err Closed) open' well ok seals err why finds_memory wants = absurd (let wrong : true ≡ false = sym why.0 ∙ open' in cc)

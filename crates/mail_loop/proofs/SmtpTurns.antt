@@ -23,7 +23,7 @@ use Rattle.std.specs.Str.{str_to_ascii_lowercase}
 use Rattle.smtp_session.specs.Dialog as session
 use Rattle.store_kept.specs.Kept.{Kept, store_of}
 use Rattle.verb_bytes.specs.declared.journal.JournalRecord.{JournalRecord}
-use Rattle.mail_loop.specs.Counts.{Counts}
+use Rattle.mail_loop.specs.TurnCounts.{TurnCounts}
 use Rattle.mail_loop.specs.declared.reply.Reply.{Reply}
 use Rattle.mail_loop.specs.State.{Seats, beside}
 use Rattle.mail_loop.specs.Turn.{Turn, lost, says}
@@ -188,7 +188,7 @@ none_wanted kept (Asks ask) = tt
 -- ---- a line
 
 -- what follows from what a line gives is its turn, whatever the other connections
-pub line_turn : (S : List JournalRecord → Counts → Type 0) (at : ℕ) (kept kept' : Kept) (d e e' : Dialog) (line : SmtpLine) (out : SmtpOut) (old new : Reply)
+pub line_turn : (S : List JournalRecord → TurnCounts → Type 0) (at : ℕ) (kept kept' : Kept) (d e e' : Dialog) (line : SmtpLine) (out : SmtpOut) (old new : Reply)
     → session.turn kept.house (store_of kept).conf at d line ≡ session.turns out e
     → (h : Hindrance) × Takes S (under h at kept (λ desk. followed smtp_speech desk kept (of_smtp out) e)) old kept' e' new
     → (h : Hindrance) × ((others : Seats) → Takes S (hindered smtp_session h at kept others d line) old kept' e' new)
@@ -197,17 +197,17 @@ line_turn S at kept kept' d e e' line out old new is t =
     (u.0, λ others. u.1)
 
 -- no memory was found for a line of a text
-pub starved_writing : (at : ℕ) (kept : Kept) (d e : Dialog) (line : SmtpLine) (old new : Reply) → new ≡ record old { closes = true }
+pub out_of_memory_writing : (at : ℕ) (kept : Kept) (d e : Dialog) (line : SmtpLine) (old new : Reply) → new ≡ record old { closes = true }
     → (h : Hindrance) × ((others : Seats) → Takes IsNone (hindered smtp_session h at kept others d line) old kept e new)
-starved_writing at kept d e line old new shut = (Unheard, λ others. closed kept kept e old new refl shut)
+out_of_memory_writing at kept d e line old new shut = (Unheard, λ others. closed kept kept e old new refl shut)
 
 -- no memory was found for a command
-pub starved_outside : (at : ℕ) (kept : Kept) (d : Dialog) (line : SmtpLine) (text : List ℕ) (old new : Reply) → session.is_writing d ≡ false → text ≡ memory_told
+pub out_of_memory_outside : (at : ℕ) (kept : Kept) (d : Dialog) (line : SmtpLine) (text : List ℕ) (old new : Reply) → session.is_writing d ≡ false → text ≡ memory_told
     → Adds text false old new → (h : Hindrance) × ((others : Seats) → Takes IsNone (hindered smtp_session h at kept others d line) old kept d new)
-starved_outside at kept d line text old new outside is (inl e) = (
+out_of_memory_outside at kept d line text old new outside is (inl e) = (
   Refused,
   λ others.
       subst (λ b. Takes IsNone (cond b (lost kept) (says memory_told kept d)) old kept d new) (sym outside)
       (told_whole memory_told kept d old new (e ∙ ap (λ (s : List ℕ). record old { said = old.said ++ s; closes = false }) is)),
 )
-starved_outside at kept d line text old new outside is (inr e) = (Unheard, λ others. closed kept kept d old new refl e)
+out_of_memory_outside at kept d line text old new outside is (inr e) = (Unheard, λ others. closed kept kept d old new refl e)

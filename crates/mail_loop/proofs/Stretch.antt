@@ -6,7 +6,7 @@ use Rattle.verb_core.specs.declared.mailbox.BoxId.{BoxId}
 use Rattle.mail_loop.specs.declared.reply.Reply.{Reply}
 use Rattle.store_kept.specs.Kept.{Kept}
 use Rattle.verb_bytes.specs.declared.journal.JournalRecord.{JournalRecord}
-use Rattle.mail_loop.specs.Counts.{Counts, both_counted, none_counted}
+use Rattle.mail_loop.specs.TurnCounts.{TurnCounts, both_counted, none_counted}
 use Rattle.mail_loop.specs.State.{Seat, Seats, State}
 use Rattle.mail_loop.specs.Turn.{Turn}
 use Rattle.mail_loop.specs.Hindrance.{Hindrance, Clear, Unheard}
@@ -32,24 +32,24 @@ abbrev all_turns : {D U : Type 0} → (Seats → Hindrance → Kept → D → U 
 all_turns one seats hs kept d us = turns (alone one) hs (beside seats kept) d us
 
 -- an outcome of such turns
-abbrev leaving : {D : Type 0} → Seats → List ℕ → List BoxId → List JournalRecord → Counts → Kept → Option D → Outcome D
+abbrev leaving : {D : Type 0} → Seats → List ℕ → List BoxId → List JournalRecord → TurnCounts → Kept → Option D → Outcome D
 leaving seats said boxes failed counts kept o =
     record { said = said; state = record { kept = kept; seats = seats }; dialog = o; gone = boxes; unsealed = failed; counts = counts }
 
 -- an outcome of such turns, whose answers are a reply's
-abbrev pub left : {D : Type 0} → Seats → Reply → Kept → List JournalRecord → Counts → Option D → Outcome D
+abbrev pub left : {D : Type 0} → Seats → Reply → Kept → List JournalRecord → TurnCounts → Option D → Outcome D
 left seats reply kept failed counts o = leaving seats reply.said reply.gone failed counts kept o
 
-nothing_more : {D : Type 0} → (seats : Seats) (reply : Reply) (counts : Counts) (kept : Kept) (o : Option D)
+nothing_more : {D : Type 0} → (seats : Seats) (reply : Reply) (counts : TurnCounts) (kept : Kept) (o : Option D)
     → leaving seats (reply.said ++ []) (reply.gone ++ []) [] (both_counted counts none_counted) kept o ≡ left seats reply kept [] counts o
 nothing_more seats reply counts kept o = λ j. leaving seats (append-nil reply.said j) (append-nil reply.gone j) [] (none_before counts j) kept o
 
 -- what is to come after a reply's answers, and after what was read for them
-abbrev pub behind : {D : Type 0} → Reply → Counts → Outcome D → Outcome D
+abbrev pub behind : {D : Type 0} → Reply → TurnCounts → Outcome D → Outcome D
 behind reply counts o = after reply.said reply.gone [] counts o
 
 -- the turns of all leave what is in the reply, of which so many could not read, and then what the turns of those to come leave
-pub record SoFar {D U : Type 0} (one : Seats → Hindrance → Kept → D → U → Turn D) (seats : Seats) (kept : Kept) (d : D) (all : List U) (reply : Reply) (counts : Counts) (kept' : Kept) (d' : D) (us : List U) : Type 0 where
+pub record SoFar {D U : Type 0} (one : Seats → Hindrance → Kept → D → U → Turn D) (seats : Seats) (kept : Kept) (d : D) (all : List U) (reply : Reply) (counts : TurnCounts) (kept' : Kept) (d' : D) (us : List U) : Type 0 where
   pub before : List Hindrance
   pub split : (more : List Hindrance) → turns (alone one) (before ++ more) (record { kept = kept; seats = seats }) d all
       ≡ behind reply counts (turns (alone one) more (record { kept = kept'; seats = seats }) d' us)
@@ -63,7 +63,7 @@ so_far_none one seats kept d us conn reply empty =
     })
 
 -- all turns, up to the next, which leaves the dialog o
-up_to : {D U : Type 0} → (one : Seats → Hindrance → Kept → D → U → Turn D) (seats : Seats) (kept : Kept) (d : D) (all : List U) (reply : Reply) (counts : Counts) (kept' : Kept) (d' : D) (u : U) (us : List U)
+up_to : {D U : Type 0} → (one : Seats → Hindrance → Kept → D → U → Turn D) (seats : Seats) (kept : Kept) (d : D) (all : List U) (reply : Reply) (counts : TurnCounts) (kept' : Kept) (d' : D) (u : U) (us : List U)
     → (s : SoFar one seats kept d all reply counts kept' d' (u ∷ us)) → (h : Hindrance) (more : List Hindrance) (o : Option D)
     → (one seats h kept' d' u).dialog ≡ o
     → all_turns one seats ((s.before ++ h ∷ []) ++ more) kept d all
@@ -73,8 +73,8 @@ up_to one seats kept d all reply counts kept' d' u us s h more o e =
     ∙ ap (λ p. behind reply counts (goes_on (alone one h (beside seats kept') d' u) p (λ s e. turns (alone one) more s e us))) e
 
 -- one turn more, after which the connection is open
-pub so_far_more : {D U : Type 0} → (S : List JournalRecord → Counts → Type 0) (one : Seats → Hindrance → Kept → D → U → Turn D) (seats : Seats) (kept : Kept) (d : D) (all : List U) (kept' : Kept) (d' : D) (u : U) (us : List U)
-    (new : Kept) (e : D) (old reply : Reply) (counts : Counts)
+pub so_far_more : {D U : Type 0} → (S : List JournalRecord → TurnCounts → Type 0) (one : Seats → Hindrance → Kept → D → U → Turn D) (seats : Seats) (kept : Kept) (d : D) (all : List U) (kept' : Kept) (d' : D) (u : U) (us : List U)
+    (new : Kept) (e : D) (old reply : Reply) (counts : TurnCounts)
     → SoFar one seats kept d all old counts kept' d' (u ∷ us) → (h : Hindrance) → Takes S (one seats h kept' d' u) old new e reply → reply.closes ≡ false
     → SoFar one seats kept d all reply (both_counted counts (one seats h kept' d' u).counts) new e us
 so_far_more {D} {U} S one seats kept d all kept' d' u us new e old reply counts s h took stays = by_dialog (one seats h kept' d' u).dialog refl took.dialog_is
@@ -111,8 +111,8 @@ so_far_more {D} {U} S one seats kept d all kept' d' u us new e old reply counts 
             }
 
 -- the last turn, after which the connection is closed
-pub closed_after : {D U : Type 0} → (S : List JournalRecord → Counts → Type 0) (one : Seats → Hindrance → Kept → D → U → Turn D) (seats : Seats) (kept : Kept) (d : D) (all : List U) (kept' : Kept) (d' : D) (u : U) (us : List U)
-    (new : Kept) (e : D) (old reply : Reply) (counts : Counts)
+pub closed_after : {D U : Type 0} → (S : List JournalRecord → TurnCounts → Type 0) (one : Seats → Hindrance → Kept → D → U → Turn D) (seats : Seats) (kept : Kept) (d : D) (all : List U) (kept' : Kept) (d' : D) (u : U) (us : List U)
+    (new : Kept) (e : D) (old reply : Reply) (counts : TurnCounts)
     → SoFar one seats kept d all old counts kept' d' (u ∷ us) → (h : Hindrance) → Takes S (one seats h kept' d' u) old new e reply → reply.closes ≡ true
     → (hs : List Hindrance) × (turns (alone one) hs (record { kept = kept; seats = seats }) d all ≡ left seats reply new (one seats h kept' d' u).unsealed (both_counted counts (one seats h kept' d' u).counts) None)
 closed_after {D} {U} S one seats kept d all kept' d' u us new e old reply counts s h took shut = by_dialog (one seats h kept' d' u).dialog refl took.dialog_is
@@ -129,7 +129,7 @@ closed_after {D} {U} S one seats kept d all kept' d' u us new e old reply counts
     by_dialog (Some f) is goes = absurd (let wrong : true ≡ false = sym shut ∙ goes.1 in cc)
 
 -- a turn for which no memory is found, and which is lost
-pub unheard : {D U : Type 0} → (one : Seats → Hindrance → Kept → D → U → Turn D) (seats : Seats) (kept : Kept) (d : D) (all : List U) (reply : Reply) (counts : Counts) (kept' : Kept) (d' : D) (us : List U)
+pub unheard : {D U : Type 0} → (one : Seats → Hindrance → Kept → D → U → Turn D) (seats : Seats) (kept : Kept) (d : D) (all : List U) (reply : Reply) (counts : TurnCounts) (kept' : Kept) (d' : D) (us : List U)
     → SoFar one seats kept d all reply counts kept' d' us → (us ≡ [] → ⊥)
     → ((u : U) → one seats Unheard kept' d' u ≡ record { said = []; kept = kept'; dialog = None; gone = []; unsealed = []; counts = none_counted })
     → (hs : List Hindrance) × (turns (alone one) hs (record { kept = kept; seats = seats }) d all ≡ left seats reply kept' [] counts None)
@@ -142,7 +142,7 @@ unheard {D} one seats kept d all reply counts kept' d' (u ∷ us) s some lost = 
 )
 
 -- no turn is to come
-pub all_heard : {D U : Type 0} → (one : Seats → Hindrance → Kept → D → U → Turn D) (seats : Seats) (kept : Kept) (d : D) (all : List U) (reply : Reply) (counts : Counts) (kept' : Kept) (d' : D) (us : List U)
+pub all_heard : {D U : Type 0} → (one : Seats → Hindrance → Kept → D → U → Turn D) (seats : Seats) (kept : Kept) (d : D) (all : List U) (reply : Reply) (counts : TurnCounts) (kept' : Kept) (d' : D) (us : List U)
     → SoFar one seats kept d all reply counts kept' d' us → us ≡ []
     → (hs : List Hindrance) × (turns (alone one) hs (record { kept = kept; seats = seats }) d all ≡ left seats reply kept' [] counts (Some d'))
 all_heard one seats kept d all reply counts kept' d' us s none = (
@@ -152,7 +152,7 @@ all_heard one seats kept d all reply counts kept' d' us s none = (
 )
 
 -- the last turn is to come, which says nothing
-pub last_heard : {D U : Type 0} → (one : Seats → Hindrance → Kept → D → U → Turn D) (seats : Seats) (kept : Kept) (d : D) (all : List U) (reply : Reply) (counts : Counts) (kept' : Kept) (d' : D) (us : List U) (u : U)
+pub last_heard : {D U : Type 0} → (one : Seats → Hindrance → Kept → D → U → Turn D) (seats : Seats) (kept : Kept) (d : D) (all : List U) (reply : Reply) (counts : TurnCounts) (kept' : Kept) (d' : D) (us : List U) (u : U)
     → SoFar one seats kept d all reply counts kept' d' us → us ≡ u ∷ [] → one seats Clear kept' d' u ≡ record { said = []; kept = kept'; dialog = Some d'; gone = []; unsealed = []; counts = none_counted }
     → (hs : List Hindrance) × (turns (alone one) hs (record { kept = kept; seats = seats }) d all ≡ left seats reply kept' [] counts (Some d'))
 last_heard {D} one seats kept d all reply counts kept' d' us u s last quiet = (
@@ -164,11 +164,11 @@ last_heard {D} one seats kept d all reply counts kept' d' us u s last quiet = (
 
 -- what the turns say is what the connection is told
 pub told_by : {D U : Type 0} → (one : Seats → Hindrance → Kept → D → U → Turn D) (seat_of : D → Seat) (seats : Seats) (kept : Kept) (d : D) (all : List U) (conn : ℕ) (reply : Reply)
-    (kept' : Kept) (failed : List JournalRecord) (counts : Counts) (seat : Seat) (o : Option D) (S : List JournalRecord → Counts → Type 0)
+    (kept' : Kept) (failed : List JournalRecord) (counts : TurnCounts) (seat : Seat) (o : Option D) (S : List JournalRecord → TurnCounts → Type 0)
     → reply.conn ≡ conn
     → (hs : List Hindrance) × (turns (alone one) hs (record { kept = kept; seats = seats }) d all ≡ left seats reply kept' failed counts o)
     → option_map seat_of o ≡ seat_left reply.closes seat → S failed counts
-    → (hs : List Hindrance) × (failed : List JournalRecord) × (counts : Counts) × S failed counts
+    → (hs : List Hindrance) × (failed : List JournalRecord) × (counts : TurnCounts) × S failed counts
     × TellsTurns (heard_by seat_of (turns (alone one) hs (record { kept = kept; seats = seats }) d all)) seats conn reply kept' failed counts seat
 told_by one seat_of seats kept d all conn reply kept' failed counts seat o S same (hs, is) left_is seals = (
   hs,
@@ -187,7 +187,7 @@ none_left true seat = refl
 none_left false seat = refl
 
 -- the answers of the turns are the one reply
-pub heard_alone : (h : Heard) (seats : Seats) (conn : ℕ) (reply : Reply) (kept : Kept) (failed : List JournalRecord) (counts : Counts) (seat : Seat)
+pub heard_alone : (h : Heard) (seats : Seats) (conn : ℕ) (reply : Reply) (kept : Kept) (failed : List JournalRecord) (counts : TurnCounts) (seat : Seat)
     → TellsTurns h seats conn reply kept failed counts seat
     → heard conn h ≡ answered_alone conn (going_on_with reply) kept failed counts [] seat seats
 heard_alone h seats conn reply kept failed counts seat t =
@@ -226,23 +226,23 @@ seat_goes false seat shut = absurd (let w : false ≡ true = shut in cc)
 
 -- The bytes of a connection are heard, and this is its reply. This is whether serving is asked to stop, what is kept, the record whose sealing
 -- failed, what could not be read, and its seat then.
-abbrev pub HeardAlone : (List JournalRecord → Counts → Type 0) → ℕ → Kept → Seats → ℕ → Seat → List ℕ → Turned → Kept → Seat → Type 0
+abbrev pub HeardAlone : (List JournalRecord → TurnCounts → Type 0) → ℕ → Kept → Seats → ℕ → Seat → List ℕ → Turned → Kept → Seat → Type 0
 HeardAlone S at kept seats conn seat bytes turned kept' seat' =
-    (no_memory : Bool) × (hs : List Hindrance) × (stage : Stage) × (failed : List JournalRecord) × (counts : Counts) × S failed counts × (readings : List Reading) × AreSaid readings
+    (no_memory : Bool) × (hs : List Hindrance) × (stage : Stage) × (failed : List JournalRecord) × (counts : TurnCounts) × S failed counts × (readings : List Reading) × AreSaid readings
     × (hears no_memory hs stage at (record { kept = kept; seats = seats }) conn seat bytes
     ≡ answered_alone conn turned kept' failed counts readings seat' seats)
 
 -- the turns of an SMTP client or an IMAP client
-pub going : (S : List JournalRecord → Counts → Type 0) (at : ℕ) (kept : Kept) (seats : Seats) (conn : ℕ) (seat : Seat) (bytes : List ℕ) (reply : Reply) (turned : Turned) (kept' : Kept) (seat' : Seat)
+pub going : (S : List JournalRecord → TurnCounts → Type 0) (at : ℕ) (kept : Kept) (seats : Seats) (conn : ℕ) (seat : Seat) (bytes : List ℕ) (reply : Reply) (turned : Turned) (kept' : Kept) (seat' : Seat)
     → turned ≡ going_on_with reply
-    → (b : Bool) (hs : List Hindrance) (stage : Stage) (failed : List JournalRecord) (counts : Counts) → S failed counts
+    → (b : Bool) (hs : List Hindrance) (stage : Stage) (failed : List JournalRecord) (counts : TurnCounts) → S failed counts
     → hears b hs stage at (record { kept = kept; seats = seats }) conn seat bytes ≡ answered_alone conn (going_on_with reply) kept' failed counts [] seat' seats
     → HeardAlone S at kept seats conn seat bytes turned kept' seat'
 going S at kept seats conn seat bytes reply turned kept' seat' is b hs stage failed counts seals e =
     subst (λ (t : Turned). HeardAlone S at kept seats conn seat bytes t kept' seat') (sym is) (b, hs, stage, failed, counts, seals, [], tt, e)
 
-pub heard_same : (S T : List JournalRecord → Counts → Type 0) (at : ℕ) (kept : Kept) (seats : Seats) (conn : ℕ) (seat seat0 : Seat) (bytes : List ℕ) (turned turned0 : Turned) (kept' kept0 : Kept) (seat' seat'' : Seat)
-    → seat ≡ seat0 → turned0 ≡ turned → kept0 ≡ kept' → seat'' ≡ seat' → ((failed : List JournalRecord) (counts : Counts) → S failed counts → T failed counts)
+pub heard_same : (S T : List JournalRecord → TurnCounts → Type 0) (at : ℕ) (kept : Kept) (seats : Seats) (conn : ℕ) (seat seat0 : Seat) (bytes : List ℕ) (turned turned0 : Turned) (kept' kept0 : Kept) (seat' seat'' : Seat)
+    → seat ≡ seat0 → turned0 ≡ turned → kept0 ≡ kept' → seat'' ≡ seat' → ((failed : List JournalRecord) (counts : TurnCounts) → S failed counts → T failed counts)
     → HeardAlone S at kept seats conn seat bytes turned kept' seat' → HeardAlone T at kept seats conn seat0 bytes turned0 kept0 seat''
 heard_same S T at kept seats conn seat seat0 bytes turned turned0 kept' kept0 seat' seat'' s r k t then (b, hs, stage, failed, counts, seals, readings, said, is) = (
   b,

@@ -38,7 +38,7 @@ use Rattle.mail_desk.specs.Desk.{Submitted, submitted, submitted_as}
 use Rattle.mail_desk.proofs.Readied.{asked_is}
 use Rattle.verb_bytes.specs.declared.journal.JournalRecord.{JournalRecord}
 use Rattle.store_kept.specs.Kept.{Kept, performed, store_of}
-use Rattle.mail_loop.specs.Counts.{Counts}
+use Rattle.mail_loop.specs.TurnCounts.{TurnCounts}
 use Rattle.mail_loop.specs.Afterwards.{gone_between, taken_away}
 use Rattle.mail_loop.specs.Took.{Submits, all_boxes, taken_by}
 
@@ -334,12 +334,12 @@ done_takes kept kept' at by ask item (Err why) valid users is wrong =
     absurd (let w : ◌≡◌ {A = Result Item SubmitFault} (Err (IsRefused why)) (Ok item) = ap (λ (s : Submitted). s.outcome) wrong in cc)
 
 -- what was noted of an ask that is done is what is gone then
-pub noted_done : (S : List JournalRecord → Counts → Type 0) (kept kept' : Kept) (at : ℕ) (by : Option User) (ask : Ask) (item : Item) → IsValid (store_of kept) → is_users ask ≡ is_some by
+pub noted_done : (S : List JournalRecord → TurnCounts → Type 0) (kept kept' : Kept) (at : ℕ) (by : Option User) (ask : Ask) (item : Item) → IsValid (store_of kept) → is_users ask ≡ is_some by
     → Submits S at kept by ask kept' (Ok item) → gone_between kept kept' ≡ taken_by by ask (all_boxes kept)
 noted_done S kept kept' at by ask item valid users did = done_takes kept kept' at by ask item (live (store_of kept) kept.next at by ask kept.deep) valid users refl did.0
 
 -- where it is not done none is gone
-pub none_noted : (S : List JournalRecord → Counts → Type 0) (kept kept' : Kept) (at : ℕ) (by : Option User) (ask : Ask) (fault : SubmitFault) → Submits S at kept by ask kept' (Err fault) → gone_between kept kept' ≡ []
+pub none_noted : (S : List JournalRecord → TurnCounts → Type 0) (kept kept' : Kept) (at : ℕ) (by : Option User) (ask : Ask) (fault : SubmitFault) → Submits S at kept by ask kept' (Err fault) → gone_between kept kept' ≡ []
 none_noted S kept kept' at by ask (IsRefused why) did = ap (gone_between kept) did.1 ∙ none_gone_of kept
 none_noted S kept kept' at by ask Disk did = ap (gone_between kept) did.2 ∙ none_gone_of kept
 none_noted S kept kept' at by ask Closed wrong = absurd wrong
@@ -376,7 +376,7 @@ asks_for (Some u) true h = refl
 asks_for (Some u) false h = absurd (true≢false (sym (h.0 refl)))
 
 -- it was not done: what was noted of it is left out again
-pub noted_unless_done : (S : List JournalRecord → Counts → Type 0) (kept kept' : Kept) (at : ℕ) (by : Option User) (ask : Ask) (outcome : Result Item SubmitFault) (ids noted left : List BoxId) (count : ℕ)
+pub noted_unless_done : (S : List JournalRecord → TurnCounts → Type 0) (kept kept' : Kept) (at : ℕ) (by : Option User) (ask : Ask) (outcome : Result Item SubmitFault) (ids noted left : List BoxId) (count : ℕ)
     → is_err outcome ≡ true → Submits S at kept by ask kept' outcome → noted ≡ ids ++ taken_by by ask (all_boxes kept) → count ≡ length ids → left ≡ take count noted
     → left ≡ ids ++ gone_between kept kept'
 noted_unless_done S kept kept' at by ask (Ok item) ids noted left count wrong did is long first = absurd (true≢false (sym wrong))
@@ -385,7 +385,7 @@ noted_unless_done S kept kept' at by ask (Err fault) ids noted left count err di
     ∙ ap (λ (l : List BoxId). ids ++ l) (sym (none_noted S kept kept' at by ask fault did))
 
 -- it was done: what was noted of it is gone
-pub noted_where_done : (S : List JournalRecord → Counts → Type 0) (kept kept' : Kept) (at : ℕ) (by : Option User) (ask : Ask) (outcome : Result Item SubmitFault) (ids noted : List BoxId)
+pub noted_where_done : (S : List JournalRecord → TurnCounts → Type 0) (kept kept' : Kept) (at : ℕ) (by : Option User) (ask : Ask) (outcome : Result Item SubmitFault) (ids noted : List BoxId)
     → is_err outcome ≡ false → IsValid (store_of kept) → IsSome by ↔ IsTrue (is_users ask) → Submits S at kept by ask kept' outcome → noted ≡ ids ++ taken_by by ask (all_boxes kept)
     → noted ≡ ids ++ gone_between kept kept'
 noted_where_done S kept kept' at by ask (Ok item) ids noted ok valid users did is =

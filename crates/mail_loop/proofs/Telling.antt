@@ -3,7 +3,7 @@ use Rattle.std.proofs.Common.{◌≡◌, true, false, List, [], ◌++◌, ℕ, r
 use Rattle.std.proofs.lemmas.List.{append-nil}
 use Rattle.store_kept.specs.Kept.{Kept}
 use Rattle.verb_bytes.specs.declared.journal.JournalRecord.{JournalRecord}
-use Rattle.mail_loop.specs.Counts.{Counts, none_counted, wanting}
+use Rattle.mail_loop.specs.TurnCounts.{TurnCounts, none_counted, wanting}
 use Rattle.mail_loop.specs.declared.reply.Reply.{Reply}
 use Rattle.mail_loop.specs.Turn.{Turn, ends, says}
 use Rattle.mail_loop.specs.Hindrance.{Hindrance}
@@ -30,7 +30,7 @@ closed kept kept' d old new same e =
     (record { conn = refl; said = sym (append-nil old.said); kept_is = same; dialog_is = refl; gone = sym (append-nil old.gone); seals = (refl, refl) })
 
 -- no sealing failed in this turn, and what was sealed is known
-pub lifted : {D : Type 0} → (S : List JournalRecord → Counts → Type 0) (t : Turn D) (old : Reply) (kept : Kept) (d : D) (new : Reply) → Takes IsNone t old kept d new → S [] none_counted → Takes S t old kept d new
+pub lifted : {D : Type 0} → (S : List JournalRecord → TurnCounts → Type 0) (t : Turn D) (old : Reply) (kept : Kept) (d : D) (new : Reply) → Takes IsNone t old kept d new → S [] none_counted → Takes S t old kept d new
 lifted S t old kept d new takes none = record {
   conn = takes.conn;
   said = takes.said;
@@ -40,12 +40,12 @@ lifted S t old kept d new takes none = record {
   seals = none_sealed S t.unsealed t.counts takes.seals none;
 }
 
-pub lifted_turn : {D : Type 0} → (S : List JournalRecord → Counts → Type 0) (f : Hindrance → Turn D) (old : Reply) (kept : Kept) (d : D) (new : Reply) → S [] none_counted
+pub lifted_turn : {D : Type 0} → (S : List JournalRecord → TurnCounts → Type 0) (f : Hindrance → Turn D) (old : Reply) (kept : Kept) (d : D) (new : Reply) → S [] none_counted
     → (h : Hindrance) × Takes IsNone (f h) old kept d new → (h : Hindrance) × Takes S (f h) old kept d new
 lifted_turn S f old kept d new none (h, takes) = (h, lifted S (f h) old kept d new takes none)
 
 -- a record was not sealed in the last turn of a connection
-pub unsealed_too : {D : Type 0} → (S : List JournalRecord → Counts → Type 0) (said : List ℕ) (k : Kept) (failed : List JournalRecord) (old : Reply) (kept : Kept) (d : D) (new : Reply)
+pub unsealed_too : {D : Type 0} → (S : List JournalRecord → TurnCounts → Type 0) (said : List ℕ) (k : Kept) (failed : List JournalRecord) (old : Reply) (kept : Kept) (d : D) (new : Reply)
     → Takes IsNone (ends {D = D} said k) old kept d new → S failed none_counted → Takes S (record (ends {D = D} said k) { unsealed = failed }) old kept d new
 unsealed_too S said k failed old kept d new takes seals = record {
   conn = takes.conn;
@@ -57,9 +57,9 @@ unsealed_too S said k failed old kept d new takes seals = record {
 }
 
 -- so many writes found no memory in this turn
-pub starved_too : {D : Type 0} → (S : List JournalRecord → Counts → Type 0) (t : Turn D) (n : ℕ) (old : Reply) (kept : Kept) (d : D) (new : Reply) → Takes IsNone t old kept d new → S [] (wanting n)
+pub out_of_memory_too : {D : Type 0} → (S : List JournalRecord → TurnCounts → Type 0) (t : Turn D) (n : ℕ) (old : Reply) (kept : Kept) (d : D) (new : Reply) → Takes IsNone t old kept d new → S [] (wanting n)
     → Takes S (record t { counts = wanting n }) old kept d new
-starved_too S t n old kept d new takes seals = record {
+out_of_memory_too S t n old kept d new takes seals = record {
   conn = takes.conn;
   said = takes.said;
   kept_is = takes.kept_is;

@@ -11,7 +11,7 @@ use Rattle.store_kept.specs.Kept.{Kept}
 use Rattle.store_kept.specs.Texts.{text_kept, texts_kept}
 use Rattle.desk_journal.specs.Lasting.{Lasting}
 use Rattle.desk_journal.specs.Reading.{IsStill, Reads, ReadsWell, none_read, wrong_once}
-use Rattle.mail_loop.specs.Counts.{Counts, read_so, wanting}
+use Rattle.mail_loop.specs.TurnCounts.{TurnCounts, read_so, wanting}
 use Rattle.desk_journal.specs.Stored.{HoldsTexts, is_recorded}
 use Rattle.desk_journal.specs.Telling.{with_memory}
 use Rattle.console_session.proofs.Deciding.{IsSame, decided}
@@ -64,10 +64,10 @@ module _ {D : Type 0} (speech : Speech D) where
       ∙ ap (λ (b : Bool). let v = speech.heard d (Ok (cond b (with_memory kept bodies texts) (texts_kept kept bodies))) in reading (cond b wrong_once none_read) (submits speech desk kept v.out v.dialog)) due
       ∙ ap (λ (ts : List (List ℕ)). let v = speech.heard d (Ok ts) in reading wrong_once (submits speech desk kept v.out v.dialog)) memory
 
-  module _ (S S' : List JournalRecord → Counts → Type 0) (at : ℕ) (kept kept' : Kept) (bodies : List Body) (texts : List (List ℕ)) (d e : D) (old new : Reply) (memory : with_memory kept bodies texts ≡ texts) where
+  module _ (S S' : List JournalRecord → TurnCounts → Type 0) (at : ℕ) (kept kept' : Kept) (bodies : List Body) (texts : List (List ℕ)) (d e : D) (old new : Reply) (memory : with_memory kept bodies texts ≡ texts) where
     -- where texts were read so before, S' holds of that and of the rest
     abbrev AsRead : Reads → Type 0
-    AsRead r = (failed : List JournalRecord) (n : ℕ) → S failed (wanting n) → S' failed (record { reads = r; starved = n })
+    AsRead r = (failed : List JournalRecord) (n : ℕ) → S failed (wanting n) → S' failed (record { reads = r; out_of_memory = n })
 
     -- they were those of the items in force, or others
     by_texts : AsRead none_read → (texts ≡ texts_kept kept bodies) ⊎ ((some_recorded kept bodies ≡ true) × AsRead wrong_once) → (h : Hindrance) → Takes S (under h at kept (given speech kept texts d)) old kept' e new
@@ -103,7 +103,7 @@ module _ {D Dialog : Type 0} (told : D → DiskTold) (speech : Speech Dialog) wh
 
       which : IsSame texts (texts_kept a.kept bodies)
           → (texts ≡ texts_kept a.kept bodies)
-          ⊎ ((some_recorded a.kept bodies ≡ true) × ((failed : List JournalRecord) (n : ℕ) → HaveSealed told b c failed (wanting n) → HaveSealed told a c failed (record { reads = wrong_once; starved = n })))
+          ⊎ ((some_recorded a.kept bodies ≡ true) × ((failed : List JournalRecord) (n : ℕ) → HaveSealed told b c failed (wanting n) → HaveSealed told a c failed (record { reads = wrong_once; out_of_memory = n })))
       which (inl same) = inl same
       which (inr other) = inr (other_recorded a.kept bodies texts count memory other, λ failed n seals. wrong_sealed told a c failed n (λ holds. other (given holds)) (all failed n seals))
 

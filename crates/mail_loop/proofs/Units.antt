@@ -4,7 +4,7 @@ use Rattle.store_kept.specs.Kept.{Kept}
 use Rattle.verb_bytes.specs.declared.journal.JournalRecord.{JournalRecord}
 use Rattle.mail_loop.specs.declared.out.Out.{Out}
 use Rattle.mail_loop.specs.declared.reply.Reply.{Reply}
-use Rattle.mail_loop.specs.Counts.{Counts}
+use Rattle.mail_loop.specs.TurnCounts.{TurnCounts}
 use Rattle.mail_loop.specs.State.{Seats}
 use Rattle.mail_loop.specs.Turn.{Turn}
 use Rattle.mail_loop.specs.Session.{Session, Took, followed, hindered, served, took}
@@ -32,10 +32,10 @@ or_told P told at kept f UnwrittenUnheard t = (UnwrittenUnheard, t)
 or_told P told at kept f (Halfway h) t = (Halfway h, t)
 
 -- what follows from what a unit gives is its turn
-pub begun_turn : {D U : Type 0} → (session : Session D U) (S : List JournalRecord → Counts → Type 0) (at : ℕ) (kept kept' : Kept) (others : Seats) (d e e' : D) (unit : U) (out : Out) (old new : Reply)
+pub begun_turn : {D U : Type 0} → (session : Session D U) (S : List JournalRecord → TurnCounts → Type 0) (at : ℕ) (kept kept' : Kept) (others : Seats) (d e e' : D) (unit : U) (out : Out) (old new : Reply)
     → session.takes at kept others d unit ≡ took out e
     → (h : Hindrance) × Takes S (under h at kept (λ desk. followed session.speech desk kept out e)) old kept' e' new
     → (h : Hindrance) × Takes S (hindered session h at kept others d unit) old kept' e' new
 begun_turn {D} session S at kept kept' others d e e' unit out old new is (h, t) =
-    or_told (λ (u : Turn D). Takes S u old kept' e' new) (session.starves kept d unit) at kept (λ desk. served session desk at kept others d unit) h
+    or_told (λ (u : Turn D). Takes S u old kept' e' new) (session.runs_out_of_memory kept d unit) at kept (λ desk. served session desk at kept others d unit) h
     (subst (λ (u : Took D). Takes S (under h at kept (λ desk. followed session.speech desk kept u.out u.dialog)) old kept' e' new) (sym is) t)

@@ -43,11 +43,11 @@ pub record Went {D : Type 0} (told : D → DiskTold) (s : State) (old : Lasting 
   pub turns : Seals told w.sealed (turned s w.step).unsealed old w.telling
   pub telling_is : w.telling.kept ≡ (turned s w.step).state.kept
   pub read : HaveRead told old w.telling (turned s w.step).counts.reads
-  pub starved : Counted (turned s w.step).counts.starved (told old.disk).starved (told w.telling.disk).starved
+  pub out_of_memory : Counted (turned s w.step).counts.out_of_memory (told old.disk).out_of_memory (told w.telling.disk).out_of_memory
   pub unkept : List JournalRecord
   pub keeps : Seals told w.snapshot unkept w.telling w.after
   pub unread : HaveRead told w.telling w.after none_read
-  pub starved_behind : Counted (if is_due_on w.telling then unwritten_by w.step.hindrances.keeping else 0) (told w.telling.disk).starved (told w.after.disk).starved
+  pub out_of_memory_behind : Counted (if is_due_on w.telling then unwritten_by w.step.hindrances.keeping else 0) (told w.telling.disk).out_of_memory (told w.after.disk).out_of_memory
   pub stays : w.telling.closed ≡ true → (w.after ≡ w.telling) × (w.snapshot ≡ [])
 
 -- from old to new a desk goes through this step

@@ -7,14 +7,14 @@ use Rattle.undo_outside.specs.Calls.{LinkTold, then_told}
 use Rattle.undo_outside.specs.Disk.{DiskTold}
 use Rattle.verb_bytes.specs.declared.journal.JournalRecord.{JournalRecord}
 use Rattle.desk_journal.specs.Lasting.{Lasting}
-use Rattle.desk_journal.specs.Reading.{Counted, RoseBy}
-use Rattle.mail_loop.specs.Counts.{Counts, none_counted, wanting}
+use Rattle.desk_journal.specs.Reading.{Counted, RoseAtLeast}
+use Rattle.mail_loop.specs.TurnCounts.{TurnCounts, none_counted, wanting}
 use Rattle.desk_journal.specs.Records.{snapshot_record}
 use Rattle.store_kept.specs.Kept.{Kept, snapshotted}
 use Rattle.mail_loop.specs.Asked.{HaveSealed}
 use Rattle.mail_loop.specs.ConsoleTurn.{AreSaid}
 use Rattle.mail_loop.specs.State.{Seat, Seats}
-use Rattle.mail_loop.specs.Machine.{Delivery, Arrives, IsMissed, IsLeftOut, Keeping, IsKept, IsPassed, IsUnkept, IsStarved, Reply, Answered, Delivered, Outcome, string_notes, reply_notes, remains, unwritten_by, with_new_seat}
+use Rattle.mail_loop.specs.Machine.{Delivery, Arrives, IsMissed, IsLeftOut, Keeping, IsKept, IsPassed, IsUnkept, IsOutOfMemory, Reply, Answered, Delivered, Outcome, string_notes, reply_notes, remains, unwritten_by, with_new_seat}
 
 -- the link did this, and gave no event
 pub record Goes (old new : LinkTold) (notes : List LinkNote) : Type 0 where
@@ -46,8 +46,8 @@ left_out_of (d ∷ ds) = left_out_by d + left_out_of ds
 -- Strings are missed only where the link counted each, and not on a link that misses none. They are left out only where a call found no memory for
 -- each: the link counted these, and so many a `close` that found none, and no other.
 pub record AreLicensed (ds : List Delivery) (unclosed : ℕ) (old new : LinkTold) : Type 0 where
-  pub rose : RoseBy (missed_of ds) old.missed new.missed
-  pub starved : Counted (left_out_of ds + unclosed) old.starved new.starved
+  pub rose : RoseAtLeast (missed_of ds) old.missed new.missed
+  pub out_of_memory : Counted (left_out_of ds + unclosed) old.out_of_memory new.out_of_memory
   pub reliable : old.is_reliable ≡ true → missed_of ds ≡ 0
 
 -- the string of a reply went out, was missed or was left out; whether the connection stays open
@@ -62,7 +62,7 @@ pub record StopsAtClose (more : List LinkNote) (new : LinkTold) : Type 0 where
   pub conn : ℕ
   pub rest : List LinkNote
   pub more_is : more ≡ Closed conn ∷ rest
-  pub starved_last : new.starved_last ≡ true
+  pub out_of_memory_last : new.out_of_memory_last ≡ true
 
 -- a reply went out: its string, and its close where it is to be closed; or no memory was found for the close
 abbrev pub Replied : LinkTold → LinkTold → Reply → Result Bool WantOfMemory → Type 0
@@ -97,7 +97,7 @@ WantsIn o before unclosed new notes more =
 -- An event, before which this was kept, led to this outcome, and serving is asked to stop or not; or memory was wanted before the link had done all
 -- of it. S holds of the record whose sealing failed and of what was counted, and what consoles' bytes were read as is so. Where memory was wanted no
 -- snapshot was taken.
-pub record Leads (S : List JournalRecord → Counts → Type 0) (unclosed : ℕ) (keeping : Keeping) (before : Kept) (o : Outcome) (old new : LinkTold) (kept : Kept) (seats : Seats) (result : Result Bool WantOfMemory) : Type 0 where
+pub record Leads (S : List JournalRecord → TurnCounts → Type 0) (unclosed : ℕ) (keeping : Keeping) (before : Kept) (o : Outcome) (old new : LinkTold) (kept : Kept) (seats : Seats) (result : Result Bool WantOfMemory) : Type 0 where
   pub did : Did (WantsIn o before unclosed new) o.notes old new result
   pub kept_is : kept ≡ o.state.kept
   pub seats_are : MatchResult result (λ stops. (seats ≡ o.state.seats) × (stops ≡ o.consoles.stops)) (λ _. Unit {0})
@@ -113,7 +113,7 @@ AnswersWith a kept seats view stops (Ok replies) =
 AnswersWith a kept seats view stops (Err e) = (kept ≡ a.state.kept) × (a.unsealed ≡ []) × (a.counts ≡ none_counted)
 
 -- S holds of the record whose sealing failed and of what was counted, and what consoles' bytes were read as is so
-abbrev pub Answers : {T : Type 0} → (List JournalRecord → Counts → Type 0) → Answered → Kept → Seats → (T → List Reply) → (T → Bool) → Result T WantOfMemory → Type 0
+abbrev pub Answers : {T : Type 0} → (List JournalRecord → TurnCounts → Type 0) → Answered → Kept → Seats → (T → List Reply) → (T → Bool) → Result T WantOfMemory → Type 0
 Answers S a kept seats view stops result = AnswersWith a kept seats view stops result × S a.unsealed a.counts × AreSaid a.consoles.readings
 
 -- a connection is opened with this seat, and these are its replies; or memory was wanted
@@ -126,14 +126,14 @@ abbrev pub kept_by : Keeping → Kept → Kept
 kept_by IsKept kept = snapshotted kept
 kept_by IsPassed kept = kept
 kept_by IsUnkept kept = kept
-kept_by IsStarved kept = kept
+kept_by IsOutOfMemory kept = kept
 
 -- the record whose sealing failed then
 abbrev pub unkept_by : Keeping → Kept → List JournalRecord
 unkept_by IsKept kept = []
 unkept_by IsPassed kept = []
 unkept_by IsUnkept kept = snapshot_record kept ∷ []
-unkept_by IsStarved kept = []
+unkept_by IsOutOfMemory kept = []
 
 -- whether a snapshot of what an open desk keeps is due
 abbrev pub is_due_on : {D : Type 0} → Lasting D → Bool

@@ -9,7 +9,7 @@ use Rattle.desk_journal.specs.Stored.{is_recorded}
 use Rattle.desk_journal.specs.Telling.{with_memory}
 use Rattle.store_kept.specs.Kept.{Kept}
 use Rattle.store_kept.specs.Texts.{texts_kept}
-use Rattle.mail_loop.specs.Asked.{Asking, does, fails, starves, unwritten}
+use Rattle.mail_loop.specs.Asked.{Asking, does, fails, runs_out_of_memory, unwritten}
 use Rattle.mail_loop.specs.Turn.{Turn, lost, unanswered}
 
 -- How a turn may go otherwise.
@@ -57,7 +57,7 @@ pub data Licence : Type 0 where
   -- a disk that is not honest gave another text than was stored
   WrongRead : Licence
   -- the count of writes that found no memory rose
-  StarvedWrite : Licence
+  OutOfMemoryWrite : Licence
 
 -- a row of the table: what licenses a hindrance, and the turn that follows
 pub record Row (D : Type 0) : Type 0 where
@@ -69,28 +69,28 @@ is_failed_read Free = false
 is_failed_read FailedRead = true
 is_failed_read FailedWrite = false
 is_failed_read WrongRead = false
-is_failed_read StarvedWrite = false
+is_failed_read OutOfMemoryWrite = false
 
 abbrev pub is_failed_write : Licence → Bool
 is_failed_write Free = false
 is_failed_write FailedRead = false
 is_failed_write FailedWrite = true
 is_failed_write WrongRead = false
-is_failed_write StarvedWrite = false
+is_failed_write OutOfMemoryWrite = false
 
 abbrev pub is_wrong_read : Licence → Bool
 is_wrong_read Free = false
 is_wrong_read FailedRead = false
 is_wrong_read FailedWrite = false
 is_wrong_read WrongRead = true
-is_wrong_read StarvedWrite = false
+is_wrong_read OutOfMemoryWrite = false
 
-abbrev pub is_starved_write : Licence → Bool
-is_starved_write Free = false
-is_starved_write FailedRead = false
-is_starved_write FailedWrite = false
-is_starved_write WrongRead = false
-is_starved_write StarvedWrite = true
+abbrev pub is_out_of_memory_write : Licence → Bool
+is_out_of_memory_write Free = false
+is_out_of_memory_write FailedRead = false
+is_out_of_memory_write FailedWrite = false
+is_out_of_memory_write WrongRead = false
+is_out_of_memory_write OutOfMemoryWrite = true
 
 -- A row says nothing that its licence does not let it say: with none it is the turn as it should be. Only where that is licensed was a record not
 -- sealed, a text not read or another, or found a write no memory.
@@ -99,7 +99,7 @@ pub record IsLicensed {D : Type 0} (clear : Turn D) (r : Row D) : Type 0 where
   pub writes : list_any is_failed_write r.licence ≡ false → r.follows.unsealed ≡ []
   pub reads : list_any is_failed_read r.licence ≡ false → r.follows.counts.reads.failed ≡ 0
   pub wrong : list_any is_wrong_read r.licence ≡ false → r.follows.counts.reads.wrong ≡ 0
-  pub starved : list_any is_starved_write r.licence ≡ false → r.follows.counts.starved ≡ 0
+  pub out_of_memory : list_any is_out_of_memory_write r.licence ≡ false → r.follows.counts.out_of_memory ≡ 0
 
 -- ---- the desk
 
@@ -150,7 +150,7 @@ misread kept texts desk = record desk {
 
 -- it finds no memory for what is asked, and nothing changes
 abbrev pub without_items : Kept → Service → Service
-without_items kept desk = record desk { asked = starves kept }
+without_items kept desk = record desk { asked = runs_out_of_memory kept }
 
 -- a write of what is asked finds no memory, and nothing changes
 abbrev pub without_writes : Kept → Service → Service
@@ -192,8 +192,8 @@ row Unheard at kept told turn = record { licence = Free ∷ []; follows = lost k
 row Unanswered at kept told turn = record { licence = Free ∷ []; follows = unanswered (turn (stopped (service at kept))) }
 row Unsealed at kept told turn = record { licence = FailedWrite ∷ []; follows = turn (without_seals at kept (service at kept)) }
 row Untold at kept told turn = record { licence = FailedWrite ∷ Free ∷ []; follows = unanswered (turn (stopped (without_seals at kept (service at kept)))) }
-row Unwritten at kept told turn = record { licence = StarvedWrite ∷ []; follows = turn (without_writes kept (service at kept)) }
-row UnwrittenUnheard at kept told turn = record { licence = StarvedWrite ∷ Free ∷ []; follows = unanswered (turn (stopped (without_writes kept (service at kept)))) }
+row Unwritten at kept told turn = record { licence = OutOfMemoryWrite ∷ []; follows = turn (without_writes kept (service at kept)) }
+row UnwrittenUnheard at kept told turn = record { licence = OutOfMemoryWrite ∷ Free ∷ []; follows = unanswered (turn (stopped (without_writes kept (service at kept)))) }
 row {D} (Halfway h) at kept told turn =
     let other : Row D = row h at kept (lost kept) (λ desk. lost kept) in record { licence = other.licence; follows = turn (halfway h (service at kept)) }
 

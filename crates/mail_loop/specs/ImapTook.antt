@@ -10,7 +10,7 @@ use Rattle.mail_loop.specs.declared.reply.Reply.{Reply}
 use Rattle.mail_loop.specs.Turn.{Turn}
 use Rattle.mail_loop.specs.Session.{followed}
 use Rattle.mail_loop.specs.Hindrance.{Hindrance, Service, row}
-use Rattle.mail_loop.specs.ImapTurn.{imap_speech, obeys, starved_command}
+use Rattle.mail_loop.specs.ImapTurn.{imap_speech, obeys, out_of_memory_command}
 use Rattle.mail_loop.specs.Took.{Adds}
 
 -- nothing whole is there
@@ -31,4 +31,4 @@ obeyed desk kept d reading = let t = obeys kept d reading in followed imap_speec
 
 -- a command, or what is none, hindered or not
 abbrev pub obeyed_under : Hindrance → ℕ → Kept → Dialog → Reading → Turn Dialog
-obeyed_under h at kept d reading = (row h at kept (starved_command kept d reading) (λ desk. obeyed desk kept d reading)).follows
+obeyed_under h at kept d reading = (row h at kept (out_of_memory_command kept d reading) (λ desk. obeyed desk kept d reading)).follows

@@ -114,16 +114,16 @@ memory_told tag = tagged tag (IsToldRefused NoMemory)
 
 -- The session found no memory for a command: the client is told. After a SELECT or EXAMINE no mailbox is selected, so that what
 -- stands behind it in the stream is not done to the mailbox before; else the session is as it was.
-abbrev pub starved_command : Kept → Dialog → Reading → Turn Dialog
-starved_command kept d (Ok command) = says (memory_told command.tag) kept (session.without_memory command.what d)
-starved_command kept d (Err why) = lost kept
+abbrev pub out_of_memory_command : Kept → Dialog → Reading → Turn Dialog
+out_of_memory_command kept d (Ok command) = says (memory_told command.tag) kept (session.without_memory command.what d)
+out_of_memory_command kept d (Err why) = lost kept
 
 -- only a command is told of want of memory
-abbrev pub starved : Kept → Dialog → Next → Turn Dialog
-starved kept d (Command raw) = starved_command kept d (command_of raw)
-starved kept d (Mark length) = lost kept
-starved kept d (Bad line) = lost kept
-starved kept d NotYet = lost kept
+abbrev pub out_of_memory : Kept → Dialog → Next → Turn Dialog
+out_of_memory kept d (Command raw) = out_of_memory_command kept d (command_of raw)
+out_of_memory kept d (Mark length) = lost kept
+out_of_memory kept d (Bad line) = lost kept
+out_of_memory kept d NotYet = lost kept
 
 abbrev pub imap_session : Session Dialog Next
-imap_session = record { speech = imap_speech; takes = λ at kept others d next. takes kept d next; starves = starved }
+imap_session = record { speech = imap_speech; takes = λ at kept others d next. takes kept d next; runs_out_of_memory = out_of_memory }

@@ -1,7 +1,7 @@
 pub mod State
 pub mod Roles
 pub mod Afterwards
-pub mod Counts
+pub mod TurnCounts
 pub mod Asked
 pub mod Turn
 pub mod Hindrance

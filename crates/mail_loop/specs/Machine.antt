@@ -12,7 +12,7 @@ use Rattle.undo_outside.specs.declared.event.LinkNote.{LinkNote}
 use Rattle.undo_outside.specs.declared.event.LinkNote.TheVariants.{Sent, Missed, Closed}
 use Rattle.verb_bytes.specs.declared.journal.JournalRecord.{JournalRecord}
 use Rattle.store_kept.specs.Kept.{snapshotted}
-use Rattle.mail_loop.specs.Counts.{Counts, both_counted, none_counted, wanting}
+use Rattle.mail_loop.specs.TurnCounts.{TurnCounts, both_counted, none_counted, wanting}
 use Rattle.desk_journal.specs.Records.{snapshot_record}
 use Rattle.console_head.specs.Request.{Stage}
 use Rattle.mail_loop.specs.declared.aftermath.Aftermath.{Aftermath}
@@ -40,7 +40,7 @@ pub data Keeping : Type 0 where
   -- it could not be sealed, and serving ends
   IsUnkept : Keeping
   -- a write of it found no memory, as the disk says, and it is left out
-  IsStarved : Keeping
+  IsOutOfMemory : Keeping
 
 -- What hinders an event: no memory for its bytes or its greeting, what hinders its turns, how each string goes, and how the snapshot that is due. And
 -- what a console's bytes are read as.
@@ -75,7 +75,7 @@ pub record Answered : Type 0 where
   pub state : State
   pub replies : List Reply
   pub unsealed : List JournalRecord
-  pub counts : Counts
+  pub counts : TurnCounts
   pub consoles : Consoles
 
 abbrev pub ignored : State → Answered
@@ -224,7 +224,7 @@ pub record Outcome : Type 0 where
   pub state : State
   pub notes : List LinkNote
   pub unsealed : List JournalRecord
-  pub counts : Counts
+  pub counts : TurnCounts
   pub consoles : Consoles
 
 abbrev pub outcome : Answered → Delivered → Outcome
@@ -248,14 +248,14 @@ abbrev pub unwritten_by : Keeping → ℕ
 unwritten_by IsKept = 0
 unwritten_by IsPassed = 0
 unwritten_by IsUnkept = 0
-unwritten_by IsStarved = 1
+unwritten_by IsOutOfMemory = 1
 
 -- the snapshot that is due is taken, left out, or could not be sealed
 abbrev pub with_snapshot : Keeping → Outcome → Outcome
 with_snapshot IsKept o = if is_snapshot_due o then record o { state = record { kept = snapshotted o.state.kept; seats = o.state.seats } } else o
 with_snapshot IsPassed o = o
 with_snapshot IsUnkept o = if is_snapshot_due o then record o { unsealed = snapshot_record o.state.kept ∷ [] } else o
-with_snapshot IsStarved o = if is_snapshot_due o then record o { counts = both_counted o.counts (wanting 1) } else o
+with_snapshot IsOutOfMemory o = if is_snapshot_due o then record o { counts = both_counted o.counts (wanting 1) } else o
 
 -- an event: its turns, its strings, and then the snapshot that is due
 abbrev pub happens : Hindrances → State → Event → Outcome

@@ -133,7 +133,7 @@ abbrev pub pop_session : Session Dialog SmtpLine
 pop_session = record {
   speech = pop_speech;
   takes = λ at kept others d line. takes (in_use others) kept d line;
-  starves = λ kept d line. says memory_told kept d;
+  runs_out_of_memory = λ kept d line. says memory_told kept d;
 }
 
 -- the same, where these users have their maildrops in use

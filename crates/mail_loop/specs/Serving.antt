@@ -9,8 +9,8 @@ use Rattle.mail_loop.specs.declared.serve.ServeFault.{ServeFault}
 use Rattle.mail_loop.specs.declared.serve.ServeFault.TheVariants.{Link, Disk, Turns, NoMemory}
 use Rattle.store_kept.specs.Kept.{Kept}
 use Rattle.verb_bytes.specs.declared.journal.JournalRecord.{JournalRecord}
-use Rattle.desk_journal.specs.Reading.{Counted, Reads, RoseBy}
-use Rattle.mail_loop.specs.Counts.{Counts, both_counted, none_counted}
+use Rattle.desk_journal.specs.Reading.{Counted, Reads, RoseAtLeast}
+use Rattle.mail_loop.specs.TurnCounts.{TurnCounts, both_counted, none_counted}
 use Rattle.mail_loop.specs.State.{State}
 use Rattle.mail_loop.specs.ConsoleTurn.{AreSaid, Consoles, Reading, both, no_consoles}
 use Rattle.mail_loop.specs.Machine.{Hindrances, IsPassed, Outcome, happens, is_end}
@@ -22,7 +22,7 @@ pub record Step : Type 0 where
   pub hindrances : Hindrances
 
 -- an outcome after what the link did before, the record that was not sealed then, what was counted, and what came of consoles
-abbrev pub after_notes : List LinkNote → List JournalRecord → Counts → Consoles → Outcome → Outcome
+abbrev pub after_notes : List LinkNote → List JournalRecord → TurnCounts → Consoles → Outcome → Outcome
 after_notes notes unsealed counts consoles o = record {
   state = o.state;
   notes = notes ++ o.notes;
@@ -56,7 +56,7 @@ abbrev pub unsealed_in : List Step → Kept → List JournalRecord
 unsealed_in steps old = (run steps (at_first old)).unsealed
 
 -- what was counted in these steps
-abbrev pub counts_in : List Step → Kept → Counts
+abbrev pub counts_in : List Step → Kept → TurnCounts
 counts_in steps old = (run steps (at_first old)).counts
 
 -- how many turns of these steps could not read a text, and how many were given another than was stored
@@ -64,8 +64,8 @@ abbrev pub reads_in : List Step → Kept → Reads
 reads_in steps old = (counts_in steps old).reads
 
 -- how many writes found no memory in these steps
-abbrev pub starved_in : List Step → Kept → ℕ
-starved_in steps old = (counts_in steps old).starved
+abbrev pub out_of_memory_in : List Step → Kept → ℕ
+out_of_memory_in steps old = (counts_in steps old).out_of_memory
 
 -- what consoles' bytes were read as in these steps
 abbrev pub readings_in : List Step → Kept → List Reading
@@ -115,8 +115,8 @@ IsLeftUnsealed wants steps old more = ((more ≡ []) × (wants ≡ 0)) ⊎ IsCut
 
 -- What the link did not do where memory was wanted. Nothing, where `next` found none; all that the last step leads to, where none was found for its
 -- bytes or strings and nothing of it was done. Or what follows from a close on for which none was found.
-abbrev pub IsLeftStarved : ℕ → List Step → Kept → List LinkNote → Type 0
-IsLeftStarved wants steps old more =
+abbrev pub IsLeftOutOfMemory : ℕ → List Step → Kept → List LinkNote → Type 0
+IsLeftOutOfMemory wants steps old more =
     ((more ≡ []) × (wants ≡ 1)) ⊎ (IsUndone steps old more × (wants ≡ 0)) ⊎ IsCutAtClose wants steps old more
 
 -- the last step, which may be the end, is the first in which sealing failed
@@ -139,7 +139,7 @@ Served turns wants steps old notes new (Err Disk) =
     (more : List LinkNote) × Serves steps old (notes ++ more) new × IsLeftUnsealed wants steps old more × EndsUnsealed steps old × (length steps ≤ turns)
     × NoStop steps old
 Served turns wants steps old notes new (Err NoMemory) =
-    (more : List LinkNote) × Serves steps old (notes ++ more) new × NoEnd steps × IsLeftStarved wants steps old more × (unsealed_in steps old ≡ []) × (length steps ≤ turns)
+    (more : List LinkNote) × Serves steps old (notes ++ more) new × NoEnd steps × IsLeftOutOfMemory wants steps old more × (unsealed_in steps old ≡ []) × (length steps ≤ turns)
     × NoStop steps old
 
 -- whether serving ended because sealing failed
@@ -191,9 +191,9 @@ pub record ServedOver (turns : ℕ) (steps : List Step) (notes : List LinkNote) 
   pub served : Served turns wants steps kept notes kept' result
   pub log : new.log ≡ then_told old.log notes
   pub order : ComeInOrder old.coming (events_of steps) new.coming
-  pub missed : RoseBy (missed_in steps) old.missed new.missed
+  pub missed : RoseAtLeast (missed_in steps) old.missed new.missed
   pub none_missed : old.is_reliable ≡ true → missed_in steps ≡ 0
-  pub starved : Counted (left_out_in steps + wants) old.starved new.starved
-  pub starved_last : wants ≡ 1 → new.starved_last ≡ true
+  pub out_of_memory : Counted (left_out_in steps + wants) old.out_of_memory new.out_of_memory
+  pub out_of_memory_last : wants ≡ 1 → new.out_of_memory_last ≡ true
   pub faults : CountsFaults result old new
   pub read : AreSaid (readings_in steps kept)

@@ -18,7 +18,7 @@ use Rattle.mail_loop.specs.Afterwards.{gone_between}
 use Rattle.mail_loop.specs.Asked.{Asked}
 use Rattle.mail_loop.specs.Hindrance.{Hindrance, IsLicensed, Row, Service, row, service, under}
 use Rattle.mail_loop.specs.State.{Seats}
-use Rattle.mail_loop.specs.Counts.{wanting}
+use Rattle.mail_loop.specs.TurnCounts.{wanting}
 use Rattle.mail_loop.specs.Turn.{Turn, ends, reading, says}
 
 -- what comes of a unit of the stream, of texts or of an outcome, and the dialog after it
@@ -75,7 +75,7 @@ pub record Speech (D : Type 0) : Type 0 where
 pub record Session (D U : Type 0) : Type 0 where
   pub speech : Speech D
   pub takes : ℕ → Kept → Seats → D → U → Took D
-  pub starves : Kept → D → U → Turn D
+  pub runs_out_of_memory : Kept → D → U → Turn D
 
 -- who is logged in is a user of the house
 abbrev pub is_home : {D : Type 0} → Speech D → House → D → Bool
@@ -96,7 +96,7 @@ settled_as (Submit asked) kept d = says [] kept d
 
 -- the dialog is told what became of its ask, with the store and the stamps after it
 abbrev pub settled : {D : Type 0} → Speech D → D → Asked → Turn D
-settled speech d a = let t = speech.settle (store_of a.kept) a.kept.stamps d a.outcome in record (settled_as t.out a.kept t.dialog) { unsealed = a.unsealed; counts = wanting a.starved }
+settled speech d a = let t = speech.settle (store_of a.kept) a.kept.stamps d a.outcome in record (settled_as t.out a.kept t.dialog) { unsealed = a.unsealed; counts = wanting a.out_of_memory }
 
 -- and the mailboxes are known that are gone then
 abbrev pub done : {D : Type 0} → Speech D → Kept → D → Asked → Turn D
@@ -104,8 +104,8 @@ done speech kept d a = record (settled speech d a) { gone = gone_between kept a.
 
 -- the turn of a further ask, behind that of the first
 abbrev pub behind : {D : Type 0} → List BoxId → List JournalRecord → ℕ → Turn D → Turn D
-behind gone unsealed starved t =
-    record t { gone = gone ++ t.gone; unsealed = unsealed ++ t.unsealed; counts = record { reads = t.counts.reads; starved = starved + t.counts.starved } }
+behind gone unsealed out_of_memory t =
+    record t { gone = gone ++ t.gone; unsealed = unsealed ++ t.unsealed; counts = record { reads = t.counts.reads; out_of_memory = out_of_memory + t.counts.out_of_memory } }
 
 -- what the dialog gives of an outcome is answered; or it is a further ask, whose turn follows, hindered or not, and which leads to no other
 abbrev pub pursued_as : {D : Type 0} → Speech D → Service → Kept → D → Asked → Out → D → Turn D
@@ -113,7 +113,7 @@ pursued_as speech desk kept d a (Say said) e = done speech kept d a
 pursued_as speech desk kept d a (Read bodies) e = done speech kept d a
 pursued_as speech desk kept d a (Bye said) e = done speech kept d a
 pursued_as speech desk kept d a (Submit asked) e =
-    behind (gone_between kept a.kept) a.unsealed a.starved (under desk.further desk.at a.kept (λ later. done speech a.kept e (later.asked (speech.user e) asked)))
+    behind (gone_between kept a.kept) a.unsealed a.out_of_memory (under desk.further desk.at a.kept (λ later. done speech a.kept e (later.asked (speech.user e) asked)))
 
 -- what comes of an ask
 abbrev pub pursued : {D : Type 0} → Speech D → Service → Kept → D → Asked → Turn D
@@ -140,7 +140,7 @@ served session desk at kept others d unit = let t = session.takes at kept others
 -- ---- the turn, hindered or not
 
 abbrev pub row_of_unit : {D U : Type 0} → Session D U → Hindrance → ℕ → Kept → Seats → D → U → Row D
-row_of_unit session h at kept others d unit = row h at kept (session.starves kept d unit) (λ desk. served session desk at kept others d unit)
+row_of_unit session h at kept others d unit = row h at kept (session.runs_out_of_memory kept d unit) (λ desk. served session desk at kept others d unit)
 
 -- a turn, hindered or not
 abbrev pub hindered : {D U : Type 0} → Session D U → Hindrance → ℕ → Kept → Seats → D → U → Turn D

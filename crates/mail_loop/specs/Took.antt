@@ -28,7 +28,7 @@ use Rattle.mail_desk.specs.Desk.{submitted}
 use Rattle.verb_bytes.specs.declared.journal.JournalRecord.{JournalRecord}
 use Rattle.verb_bytes.specs.declared.journal.JournalRecord.TheVariants.{Verb}
 use Rattle.desk_journal.specs.Reading.{Reads, failed_once, none_read}
-use Rattle.mail_loop.specs.Counts.{Counts, none_counted, wanting}
+use Rattle.mail_loop.specs.TurnCounts.{TurnCounts, none_counted, wanting}
 use Rattle.mail_loop.specs.State.{Seat, Seats}
 use Rattle.mail_loop.specs.Afterwards.{taking}
 use Rattle.mail_loop.specs.Asked.{asked_as}
@@ -97,12 +97,12 @@ IsTold (Read bodies) old new = new ≡ old
 IsTold (Submit asked) old new = new ≡ old
 
 -- no sealing failed, nothing was read, and each write found memory
-abbrev pub IsNone : List JournalRecord → Counts → Type 0
+abbrev pub IsNone : List JournalRecord → TurnCounts → Type 0
 IsNone failed counts = (failed ≡ []) × (counts ≡ none_counted)
 
 -- A turn is in the reply, and S holds of the record whose sealing failed in it, and of what was counted in it. Where the connection stays open no
 -- sealing failed.
-pub record Takes {D : Type 0} (S : List JournalRecord → Counts → Type 0) (t : Turn D) (old : Reply) (kept : Kept) (d : D) (new : Reply) : Type 0 where
+pub record Takes {D : Type 0} (S : List JournalRecord → TurnCounts → Type 0) (t : Turn D) (old : Reply) (kept : Kept) (d : D) (new : Reply) : Type 0 where
   pub conn : new.conn ≡ old.conn
   pub said : new.said ≡ old.said ++ t.said
   pub kept_is : kept ≡ t.kept
@@ -118,12 +118,12 @@ is_refused (Err Disk) = false
 is_refused (Err Closed) = false
 
 -- a refused ask made no write; or the last one that was made for it found no memory, and that is why
-abbrev pub Wrote : (List JournalRecord → Counts → Type 0) → Refused → Type 0
+abbrev pub Wrote : (List JournalRecord → TurnCounts → Type 0) → Refused → Type 0
 Wrote S why = S [] none_counted ⊎ ((why ≡ NoMemory) × S [] (wanting 1))
 
 -- What the desk did of an ask: S holds of the record whose sealing failed, and of the writes that found no memory; nothing was read. A desk that is open
 -- doesn't answer that it is closed.
-abbrev pub Submits : (List JournalRecord → Counts → Type 0) → ℕ → Kept → Option User → Ask → Kept → Result Item SubmitFault → Type 0
+abbrev pub Submits : (List JournalRecord → TurnCounts → Type 0) → ℕ → Kept → Option User → Ask → Kept → Result Item SubmitFault → Type 0
 Submits S at kept by ask kept' (Ok item) = (submitted kept at by ask ≡ record { outcome = Ok item; kept = kept' }) × S [] none_counted
 Submits S at kept by ask kept' (Err (IsRefused why)) = IsRefusal why (live (store_of kept) kept.next at by ask kept.deep) × (kept' ≡ kept) × Wrote S why
 Submits S at kept by ask kept' (Err Disk) = (item : Item) × (live (store_of kept) kept.next at by ask kept.deep ≡ Ok item) × (kept' ≡ kept) × S (Verb item ∷ []) none_counted
@@ -184,12 +184,12 @@ abbrev pub IsToldWhy : {D : Type 0} → Speech D → ReadFault → Kept → D �
 IsToldWhy speech why kept d old d' new = Takes IsNone (let t = speech.heard d (Err why) in settled_as t.out kept t.dialog) old kept d' new
 
 -- the dialog is told that no memory was found for its texts, or the connection closes with no answer
-abbrev pub ReadsStarved : {D : Type 0} → Speech D → Kept → D → Reply → D → Reply → Type 0
-ReadsStarved speech kept d old d' new = IsToldWhy speech NoneForTexts kept d old d' new ⊎ Takes IsNone (lost kept) old kept d' new
+abbrev pub ReadsOutOfMemory : {D : Type 0} → Speech D → Kept → D → Reply → D → Reply → Type 0
+ReadsOutOfMemory speech kept d old d' new = IsToldWhy speech NoneForTexts kept d old d' new ⊎ Takes IsNone (lost kept) old kept d' new
 
 -- the dialog is told why its texts were not read, or no memory was found for that
 abbrev pub ReadsNone : {D : Type 0} → Speech D → ReadFault → Kept → D → Reply → D → Reply → Type 0
-ReadsNone speech why kept d old d' new = IsToldWhy speech why kept d old d' new ⊎ ReadsStarved speech kept d old d' new
+ReadsNone speech why kept d old d' new = IsToldWhy speech why kept d old d' new ⊎ ReadsOutOfMemory speech kept d old d' new
 
 -- what is counted where texts were not read
 abbrev pub reads_of : ReadFault → Reads
@@ -201,10 +201,10 @@ abbrev pub given : {D : Type 0} → Speech D → Kept → List (List ℕ) → D 
 given speech kept texts d desk = let t = speech.heard d (Ok texts) in submits speech desk kept t.out t.dialog
 
 -- the dialog was given these texts; or no memory was found for that, and nothing was done
-abbrev pub TakesTexts : {D : Type 0} → Speech D → (List JournalRecord → Counts → Type 0) → ℕ → Kept → List (List ℕ) → D → Reply → Kept → D → Reply → Type 0
+abbrev pub TakesTexts : {D : Type 0} → Speech D → (List JournalRecord → TurnCounts → Type 0) → ℕ → Kept → List (List ℕ) → D → Reply → Kept → D → Reply → Type 0
 TakesTexts speech S at kept texts d old kept' d' new =
     ((h : Hindrance) × Takes S (under h at kept (given speech kept texts d)) old kept' d' new)
-    ⊎ (ReadsStarved speech kept d old d' new × (kept' ≡ kept) × S [] none_counted)
+    ⊎ (ReadsOutOfMemory speech kept d old d' new × (kept' ≡ kept) × S [] none_counted)
 
 -- ---- replies and letters
 
@@ -225,12 +225,12 @@ seat_left false seat = Some seat
 
 -- The turns of a connection's stream are in the reply, with the mailboxes that they took away. This is the record whose sealing failed, what was
 -- counted in them, and its seat then.
-pub record TellsTurns (h : Heard) (seats : Seats) (conn : ℕ) (reply : Reply) (kept : Kept) (failed : List JournalRecord) (counts : Counts) (seat : Seat) : Type 0 where
+pub record TellsTurns (h : Heard) (seats : Seats) (conn : ℕ) (reply : Reply) (kept : Kept) (failed : List JournalRecord) (counts : TurnCounts) (seat : Seat) : Type 0 where
   pub conn_is : reply.conn ≡ conn
   pub heard_is : h ≡ record { said = reply.said; state = record { kept = kept; seats = seats }; seat = seat_left reply.closes seat; aftermath = taking reply.gone; unsealed = failed; counts = counts; consoles = no_consoles }
 
 -- a connection is told of its turns, and others of what follows
-abbrev pub answered_with : ℕ → Turned → Kept → List JournalRecord → Counts → List Reading → Seats → AnsweredEvent
+abbrev pub answered_with : ℕ → Turned → Kept → List JournalRecord → TurnCounts → List Reading → Seats → AnsweredEvent
 answered_with conn turned kept failed counts readings seats = record {
   state = record { kept = kept; seats = seats };
   replies = with_reply (reply_of turned) (told_others conn turned.aftermath seats);
@@ -240,6 +240,6 @@ answered_with conn turned kept failed counts readings seats = record {
 }
 
 -- the same, and its seat is now this one, or none where it is closed
-abbrev pub answered_alone : ℕ → Turned → Kept → List JournalRecord → Counts → List Reading → Seat → Seats → AnsweredEvent
+abbrev pub answered_alone : ℕ → Turned → Kept → List JournalRecord → TurnCounts → List Reading → Seat → Seats → AnsweredEvent
 answered_alone conn turned kept failed counts readings seat seats =
     answered_with conn turned kept failed counts readings (seated conn (seat_left turned.closes seat) seats)

@@ -4,7 +4,7 @@ use Rattle.verb_core.specs.declared.mailbox.BoxId.{BoxId}
 use Rattle.store_kept.specs.Kept.{Kept}
 use Rattle.verb_bytes.specs.declared.journal.JournalRecord.{JournalRecord}
 use Rattle.desk_journal.specs.Reading.{Reads}
-use Rattle.mail_loop.specs.Counts.{Counts, none_counted}
+use Rattle.mail_loop.specs.TurnCounts.{TurnCounts, none_counted}
 
 -- What a turn says, what is kept after it, the dialog after it, or none where the connection is closed, and the mailboxes that it took away. The
 -- record whose sealing failed, where one did: serving ends then. Whether it could not read a text or was given another, and in how many writes it
@@ -15,7 +15,7 @@ pub record Turn (D : Type 0) : Type 0 where
   pub dialog : Option D
   pub gone : List BoxId
   pub unsealed : List JournalRecord
-  pub counts : Counts
+  pub counts : TurnCounts
 
 -- something is said, or nothing, and the dialog goes on
 abbrev pub says : {D : Type 0} → List ℕ → Kept → D → Turn D
@@ -35,4 +35,4 @@ unanswered t = record t { said = []; dialog = None }
 
 -- the same turn, for which texts were read so
 abbrev pub reading : {D : Type 0} → Reads → Turn D → Turn D
-reading reads t = record t { counts = record { reads = reads; starved = t.counts.starved } }
+reading reads t = record t { counts = record { reads = reads; out_of_memory = t.counts.out_of_memory } }

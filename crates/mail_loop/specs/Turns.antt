@@ -14,7 +14,7 @@ use Rattle.imap_stream.specs.declared.next.Next.TheVariants.{NotYet}
 use Rattle.imap_session.specs.declared.dialog.Dialog.{Dialog as ImapDialog}
 use Rattle.pop_session.specs.declared.dialog.Dialog.{Dialog as PopDialog}
 use Rattle.verb_bytes.specs.declared.journal.JournalRecord.{JournalRecord}
-use Rattle.mail_loop.specs.Counts.{Counts, both_counted, none_counted}
+use Rattle.mail_loop.specs.TurnCounts.{TurnCounts, both_counted, none_counted}
 use Rattle.console_head.specs.Request.{Stage}
 use Rattle.mail_loop.specs.State.{Seat, Smtp, Imap, Http, Pop, State, beside}
 use Rattle.mail_loop.specs.Turn.{Turn}
@@ -35,14 +35,14 @@ pub record Outcome (D : Type 0) : Type 0 where
   pub dialog : Option D
   pub gone : List BoxId
   pub unsealed : List JournalRecord
-  pub counts : Counts
+  pub counts : TurnCounts
 
 -- no turn yet
 abbrev pub none_yet : {D : Type 0} → State → D → Outcome D
 none_yet s d = record { said = []; state = s; dialog = Some d; gone = []; unsealed = []; counts = none_counted }
 
 -- what turns leave after what earlier ones said
-abbrev pub after : {D : Type 0} → List ℕ → List BoxId → List JournalRecord → Counts → Outcome D → Outcome D
+abbrev pub after : {D : Type 0} → List ℕ → List BoxId → List JournalRecord → TurnCounts → Outcome D → Outcome D
 after said gone unsealed counts o = record {
   said = said ++ o.said;
   state = o.state;
@@ -93,7 +93,7 @@ pub record Heard : Type 0 where
   pub seat : Option Seat
   pub aftermath : Aftermath
   pub unsealed : List JournalRecord
-  pub counts : Counts
+  pub counts : TurnCounts
   pub consoles : Consoles
 
 abbrev pub heard_by : {D : Type 0} → (D → Seat) → Outcome D → Heard
@@ -121,7 +121,7 @@ hears_console hs stage at s bytes =
       seat = option_map Http (left_by t.after bytes);
       aftermath = (sequel_of t.after).aftermath;
       unsealed = t.unsealed;
-      counts = record { reads = t.reads; starved = t.starved };
+      counts = record { reads = t.reads; out_of_memory = t.out_of_memory };
       consoles = record { readings = record { bytes = bytes; stage = stage } ∷ []; stops = (sequel_of t.after).stops };
     }
 

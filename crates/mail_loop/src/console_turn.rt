@@ -4,7 +4,7 @@ ghost use Rattle.verb_bytes.specs.declared.journal.JournalRecord.{JournalRecord}
 ghost use Rattle.console_head.specs.Request.{Stage};
 ghost use Rattle.mail_loop.specs.State.{Http as HttpSeat, Seats};
 ghost use Rattle.mail_loop.specs.Asked.{HaveSealed};
-ghost use Rattle.mail_loop.specs.Counts.{Counts};
+ghost use Rattle.mail_loop.specs.TurnCounts.{TurnCounts};
 ghost use Rattle.mail_loop.specs.ConsoleTurn.{AreSaid, Reading, sequel_of};
 ghost use Rattle.mail_loop.specs.Hindrance.{Hindrance};
 ghost use Rattle.mail_loop.specs.Machine.{hears};
@@ -79,7 +79,7 @@ pub fn hear_console<R: Threads + Sync, D: Disk + Drop, G: Gate>(
     requires moment { at ≤ 253402300799 }
     requires sealed { desk.old.closed ≡ false }
     ensures house { desk.new.kept.house ≡ desk.old.kept.house }
-    ensures heard { (seats : Seats) → (no_memory : Bool) × (hs : List Hindrance) × (stage : Stage) × (failed : List JournalRecord) × (counts : Counts) ×
+    ensures heard { (seats : Seats) → (no_memory : Bool) × (hs : List Hindrance) × (stage : Stage) × (failed : List JournalRecord) × (counts : TurnCounts) ×
         HaveSealed D.told desk.old desk.new failed counts × (readings : List Reading) × AreSaid readings ×
         (hears no_memory hs stage at (record { kept = desk.old.kept; seats = seats }) conn (HttpSeat console.old) bytes.now
         ≡ answered_alone conn result desk.new.kept failed counts readings (HttpSeat console.new) seats) }

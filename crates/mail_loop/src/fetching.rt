@@ -4,7 +4,7 @@ ghost use Rattle.console_head.specs.Request.{Stage};
 ghost use Rattle.pop_session.specs.Dialog.{is_at_home, is_free};
 ghost use Rattle.verb_bytes.specs.declared.journal.JournalRecord.{JournalRecord};
 ghost use Rattle.mail_loop.specs.Asked.{HaveSealed};
-ghost use Rattle.mail_loop.specs.Counts.{Counts};
+ghost use Rattle.mail_loop.specs.TurnCounts.{TurnCounts};
 ghost use Rattle.mail_loop.specs.ConsoleTurn.{AreSaid, Reading};
 ghost use Rattle.mail_loop.specs.Hindrance.{Hindrance};
 ghost use Rattle.mail_loop.specs.Machine.{hears};
@@ -40,7 +40,7 @@ fn serve_fetching<D: Disk + Drop>(
     ensures free { is_free dialog.new ≡ true }
     ensures home { is_at_home desk.new.kept.house dialog.new ≡ true }
     ensures house { desk.new.kept.house ≡ desk.old.kept.house }
-    ensures turns { (seats : Seats) → (hs : List Hindrance) × (failed : List JournalRecord) × (counts : Counts) × HaveSealed D.told desk.old desk.new failed counts ×
+    ensures turns { (seats : Seats) → (hs : List Hindrance) × (failed : List JournalRecord) × (counts : TurnCounts) × HaveSealed D.told desk.old desk.new failed counts ×
         TellsTurns (fetches (pop_beside users.now) hs at (record { kept = desk.old.kept; seats = seats }) conn dialog.old unserved.old) seats conn result desk.new.kept failed counts (PopSeat unserved.new dialog.new) }
 {
     seals_join::<D>();
@@ -78,7 +78,7 @@ fn hear_beside<D: Disk + Drop>(
     ensures free { is_free dialog.new ≡ true }
     ensures home { is_at_home desk.new.kept.house dialog.new ≡ true }
     ensures house { desk.new.kept.house ≡ desk.old.kept.house }
-    ensures heard { (seats : Seats) → users.now ≡ in_use (beside conn seats) → (no_memory : Bool) × (hs : List Hindrance) × (stage : Stage) × (failed : List JournalRecord) × (counts : Counts) ×
+    ensures heard { (seats : Seats) → users.now ≡ in_use (beside conn seats) → (no_memory : Bool) × (hs : List Hindrance) × (stage : Stage) × (failed : List JournalRecord) × (counts : TurnCounts) ×
         HaveSealed D.told desk.old desk.new failed counts × (readings : List Reading) × AreSaid readings ×
         (hears no_memory hs stage at (record { kept = desk.old.kept; seats = seats }) conn (PopSeat unserved.old dialog.old) bytes.now
         ≡ answered_alone conn result desk.new.kept failed counts readings (PopSeat unserved.new dialog.new) seats) }
@@ -108,7 +108,7 @@ pub fn hear_fetching<D: Disk + Drop>(
     ensures free { is_free dialog.new ≡ true }
     ensures home { is_at_home desk.new.kept.house dialog.new ≡ true }
     ensures house { desk.new.kept.house ≡ desk.old.kept.house }
-    ensures heard { (seats : Seats) → AreInUse conn seats (PopSeat unserved.old dialog.old) found.now → (no_memory : Bool) × (hs : List Hindrance) × (stage : Stage) × (failed : List JournalRecord) × (counts : Counts) ×
+    ensures heard { (seats : Seats) → AreInUse conn seats (PopSeat unserved.old dialog.old) found.now → (no_memory : Bool) × (hs : List Hindrance) × (stage : Stage) × (failed : List JournalRecord) × (counts : TurnCounts) ×
         HaveSealed D.told desk.old desk.new failed counts × (readings : List Reading) × AreSaid readings ×
         (hears no_memory hs stage at (record { kept = desk.old.kept; seats = seats }) conn (PopSeat unserved.old dialog.old) bytes.now
         ≡ answered_alone conn result desk.new.kept failed counts readings (PopSeat unserved.new dialog.new) seats) }

@@ -9,7 +9,7 @@ ghost use Rattle.mail_loop.specs.State.{Seats, Smtp as SmtpSeat, Imap as ImapSea
 ghost use Rattle.mail_loop.specs.Roles.{row_of};
 ghost use Rattle.mail_loop.specs.SmtpTurn as smtp;
 ghost use Rattle.mail_loop.specs.Asked.{HaveSealed};
-ghost use Rattle.mail_loop.specs.Counts.{Counts};
+ghost use Rattle.mail_loop.specs.TurnCounts.{TurnCounts};
 ghost use Rattle.mail_loop.specs.Hindrance.{Hindrance};
 ghost use Rattle.mail_loop.specs.Turns.{hears_lines, hears_commands};
 ghost use Rattle.console_head.specs.Request.{Stage};
@@ -197,7 +197,7 @@ fn serve_lines<D: Disk + Drop>(
     requires free { smtp.is_free dialog.old ≡ true }
     ensures free { smtp.is_free dialog.new ≡ true }
     ensures house { desk.new.kept.house ≡ desk.old.kept.house }
-    ensures turns { (seats : Seats) → (hs : List Hindrance) × (failed : List JournalRecord) × (counts : Counts) × HaveSealed D.told desk.old desk.new failed counts ×
+    ensures turns { (seats : Seats) → (hs : List Hindrance) × (failed : List JournalRecord) × (counts : TurnCounts) × HaveSealed D.told desk.old desk.new failed counts ×
         TellsTurns (hears_lines hs at (record { kept = desk.old.kept; seats = seats }) conn dialog.old unserved.old) seats conn result desk.new.kept failed counts (SmtpSeat unserved.new dialog.new) }
 {
     seals_join::<D>();
@@ -233,7 +233,7 @@ fn hear_smtp<D: Disk + Drop>(
     requires free { smtp.is_free dialog.old ≡ true }
     ensures free { smtp.is_free dialog.new ≡ true }
     ensures house { desk.new.kept.house ≡ desk.old.kept.house }
-    ensures heard { (seats : Seats) → (no_memory : Bool) × (hs : List Hindrance) × (stage : Stage) × (failed : List JournalRecord) × (counts : Counts) ×
+    ensures heard { (seats : Seats) → (no_memory : Bool) × (hs : List Hindrance) × (stage : Stage) × (failed : List JournalRecord) × (counts : TurnCounts) ×
         HaveSealed D.told desk.old desk.new failed counts × (readings : List Reading) × AreSaid readings ×
         (hears no_memory hs stage at (record { kept = desk.old.kept; seats = seats }) conn (SmtpSeat unserved.old dialog.old) bytes.now
         ≡ answered_alone conn result desk.new.kept failed counts readings (SmtpSeat unserved.new dialog.new) seats) }
@@ -268,7 +268,7 @@ fn serve_commands<D: Disk + Drop>(
     ensures free { is_free dialog.new ≡ true }
     ensures home { is_at_home desk.new.kept.house dialog.new ≡ true }
     ensures house { desk.new.kept.house ≡ desk.old.kept.house }
-    ensures turns { (seats : Seats) → (hs : List Hindrance) × (failed : List JournalRecord) × (counts : Counts) × HaveSealed D.told desk.old desk.new failed counts ×
+    ensures turns { (seats : Seats) → (hs : List Hindrance) × (failed : List JournalRecord) × (counts : TurnCounts) × HaveSealed D.told desk.old desk.new failed counts ×
         TellsTurns (hears_commands hs at (record { kept = desk.old.kept; seats = seats }) conn dialog.old stream.old) seats conn result desk.new.kept failed counts (ImapSeat stream.new dialog.new) }
 {
     seals_join::<D>();
@@ -309,7 +309,7 @@ fn hear_imap<D: Disk + Drop>(
     ensures free { is_free dialog.new ≡ true }
     ensures home { is_at_home desk.new.kept.house dialog.new ≡ true }
     ensures house { desk.new.kept.house ≡ desk.old.kept.house }
-    ensures heard { (seats : Seats) → (no_memory : Bool) × (hs : List Hindrance) × (stage : Stage) × (failed : List JournalRecord) × (counts : Counts) ×
+    ensures heard { (seats : Seats) → (no_memory : Bool) × (hs : List Hindrance) × (stage : Stage) × (failed : List JournalRecord) × (counts : TurnCounts) ×
         HaveSealed D.told desk.old desk.new failed counts × (readings : List Reading) × AreSaid readings ×
         (hears no_memory hs stage at (record { kept = desk.old.kept; seats = seats }) conn (ImapSeat stream.old dialog.old) bytes.now
         ≡ answered_alone conn result desk.new.kept failed counts readings (ImapSeat stream.new dialog.new) seats) }
@@ -339,7 +339,7 @@ pub fn hear<R: Threads + Sync, D: Disk + Drop, G: Gate>(
     requires home { IsHome desk.old.kept.house connection.old }
     ensures home { IsHome desk.new.kept.house connection.new }
     ensures house { desk.new.kept.house ≡ desk.old.kept.house }
-    ensures heard { (seats : Seats) → seat_at conn seats ≡ Some connection.old → AreInUse conn seats connection.old in_use.now → (no_memory : Bool) × (hs : List Hindrance) × (stage : Stage) × (failed : List JournalRecord) × (counts : Counts) ×
+    ensures heard { (seats : Seats) → seat_at conn seats ≡ Some connection.old → AreInUse conn seats connection.old in_use.now → (no_memory : Bool) × (hs : List Hindrance) × (stage : Stage) × (failed : List JournalRecord) × (counts : TurnCounts) ×
         HaveSealed D.told desk.old desk.new failed counts × (readings : List Reading) × AreSaid readings ×
         (hears no_memory hs stage at (record { kept = desk.old.kept; seats = seats }) conn connection.old bytes.now
         ≡ answered_alone conn result desk.new.kept failed counts readings connection.new seats) }

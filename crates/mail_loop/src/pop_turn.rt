@@ -10,7 +10,7 @@ ghost use Rattle.mail_loop.specs.Took.{AreThere, Takes};
 
 use crate::out::of_pop;
 use crate::reply::{Reply, say};
-use crate::turn::{follow, read_starved};
+use crate::turn::{follow, read_out_of_memory};
 use pop_session::{PopOut, PopSession, memory_text};
 use smtp_lines::SmtpLine;
 use std::alloc::Global;
@@ -43,7 +43,7 @@ fn obey<D: Disk + Drop>(
     seals_join::<D>();
     match of_pop(alloc, out) {
         Ok(out) => follow(alloc, desk, session, at, out, reply),
-        Err(NoMemory) => read_starved(alloc, session, reply),
+        Err(NoMemory) => read_out_of_memory(alloc, session, reply),
     }
 }
 

@@ -21,7 +21,7 @@ use undo_base::NoMemory;
 use undo_outside::Disk;
 
 /// No memory was found for a line. In a text nothing can be said of it.
-fn starve(session: &mut SmtpSession, reply: &mut Reply)
+fn run_out_of_memory(session: &mut SmtpSession, reply: &mut Reply)
     requires free { is_free session.old ≡ true }
     requires stays { reply.old.closes ≡ false }
     ensures free { is_free session.new ≡ true }
@@ -56,6 +56,6 @@ pub fn take_line<D: Disk + Drop>(
     seals_join::<D>();
     match session.take(alloc, desk.house(), desk.conf(), at, line) {
         Ok(out) => follow(alloc, desk, session, at, of_smtp(alloc, out), reply),
-        Err(NoMemory) => starve(session, reply),
+        Err(NoMemory) => run_out_of_memory(session, reply),
     }
 }

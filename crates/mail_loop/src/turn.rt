@@ -9,7 +9,7 @@ ghost use Rattle.store_kept.specs.Texts.{has_text_kept};
 ghost use Rattle.mail_loop.specs.Asked.{HaveSealed};
 ghost use Rattle.mail_loop.specs.Session.{done, followed, is_home, is_said, pursued, submits, took};
 ghost use Rattle.mail_loop.specs.Hindrance.{Hindrance, under};
-ghost use Rattle.mail_loop.specs.Took.{AreThere, AsksAs, IsAwaitedLast, IsDueNext, IsLast, IsNext, IsTold, ReadsNone, ReadsStarved, Settles, SettlesAgain, SettlesOrAsks, Takes, TakesTexts, asked_in};
+ghost use Rattle.mail_loop.specs.Took.{AreThere, AsksAs, IsAwaitedLast, IsDueNext, IsLast, IsNext, IsTold, ReadsNone, ReadsOutOfMemory, Settles, SettlesAgain, SettlesOrAsks, Takes, TakesTexts, asked_in};
 
 use crate::asking::{ask_desk, is_refused};
 use crate::out::Out;
@@ -101,8 +101,8 @@ fn settle_again<S: Speaks, D: Disk + Drop>(
     if !was_refused {
         return close(session, reply);
     }
-    let starved = Err(SubmitFault::Refused(Refused::NoMemory));
-    match settle_with(alloc, desk, session, &starved) {
+    let out_of_memory = Err(SubmitFault::Refused(Refused::NoMemory));
+    match settle_with(alloc, desk, session, &out_of_memory) {
         Ok(out) => tell(reply, out),
         Err(NoMemory) => close(session, reply),
     }
@@ -238,12 +238,12 @@ fn go_on<S: Speaks, D: Disk + Drop>(
 }
 
 /// Tells the session that no memory was found for its texts.
-pub fn read_starved<S: Speaks>(alloc: Global, session: &mut S, reply: &mut Reply)
+pub fn read_out_of_memory<S: Speaks>(alloc: Global, session: &mut S, reply: &mut Reply)
     requires reading { S.speech.takes_texts session.old ≡ true }
     requires stays { reply.old.closes ≡ false }
     ensures free { S.speech.is_free session.new ≡ true }
     ensures home { (house : TheHouse) → is_home S.speech house session.old ≡ true → is_home S.speech house session.new ≡ true }
-    ensures read { (kept : Kept) → ReadsStarved S.speech kept session.old reply.old session.new reply.new }
+    ensures read { (kept : Kept) → ReadsOutOfMemory S.speech kept session.old reply.old session.new reply.new }
 {
     match session.take_texts(alloc, &Err(ReadFault::NoMemory)) {
         Ok(out) => tell(reply, out),
@@ -261,7 +261,7 @@ fn read_none<S: Speaks>(alloc: Global, session: &mut S, why: ReadFault, reply: &
 {
     match session.take_texts(alloc, &Err(why)) {
         Ok(out) => tell(reply, out),
-        Err(NoMemory) => read_starved(alloc, session, reply),
+        Err(NoMemory) => read_out_of_memory(alloc, session, reply),
     }
 }
 
@@ -286,7 +286,7 @@ fn hand_texts<S: Speaks, D: Disk + Drop>(
     seals_join::<D>();
     match session.take_texts(alloc, &Ok(texts)) {
         Ok(out) => go_on(alloc, desk, session, at, out, reply),
-        Err(NoMemory) => read_starved(alloc, session, reply),
+        Err(NoMemory) => read_out_of_memory(alloc, session, reply),
     }
 }
 

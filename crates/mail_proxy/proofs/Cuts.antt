@@ -103,15 +103,15 @@ module _ {D : Type 0} (told : D → DiskTold) where
         (Err write.NoMemory, (w.front, w.back, w.split, w.some, w.before, w.took, w.stops), refl),
         (
           (λ nought. absurd (let wrong : ◌≡◌ {A = ℕ} 8 0 = nought in omega (arith, wrong))),
-          (λ eight. (w.front, w.back, w.split, w.some, w.before, w.took, starved_begun w.front w.before out' w.stops begun)),
+          (λ eight. (w.front, w.back, w.split, w.some, w.before, w.took, out_of_memory_begun w.front w.before out' w.stops begun)),
         ),
       )
     where
-      starved_begun : (front : List ℕ) (before new : SinkTold) → WantsToWrite before new ⊎ (new ≡ before) → WantsToWrite before new ⊎ (0 < length front)
+      out_of_memory_begun : (front : List ℕ) (before new : SinkTold) → WantsToWrite before new ⊎ (new ≡ before) → WantsToWrite before new ⊎ (0 < length front)
           → WantsToWrite before new ⊎ ((new ≡ before) × (0 < length front))
-      starved_begun front before new (inl wants) begun = inl wants
-      starved_begun front before new (inr same) (inl wants) = inl wants
-      starved_begun front before new (inr same) (inr some) = inr (same, some)
+      out_of_memory_begun front before new (inl wants) begun = inl wants
+      out_of_memory_begun front before new (inr same) (inl wants) = inl wants
+      out_of_memory_begun front before new (inr same) (inr some) = inr (same, some)
 
   -- a desk that was read tells the same
   pub told_stays : (old mid : Lasting D) → IsStill told old mid → (HoldsTexts told old → HoldsTexts told mid) → StaysTold (desk_told told old) (desk_told told mid)

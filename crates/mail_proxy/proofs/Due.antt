@@ -4,7 +4,7 @@ use Rattle.std.specs.Prelude.{IsErrOf}
 use Rattle.undo_outside.specs.declared.event.Event.{Event}
 use Rattle.undo_outside.specs.declared.event.LinkNote.{LinkNote}
 use Rattle.undo_outside.specs.declared.fault.Fault.{Fault}
-use Rattle.undo_outside.specs.declared.fault.Fault.TheVariants.{Failed, NoMemory as SinkStarved}
+use Rattle.undo_outside.specs.declared.fault.Fault.TheVariants.{Failed, NoMemory as SinkOutOfMemory}
 use Rattle.undo_outside.specs.Calls.{LinkTold, SourceTold, SinkTold}
 use Rattle.undo_outside.specs.Disk.{DiskTold}
 use Rattle.verb_bytes.specs.declared.journal.JournalRecord.{JournalRecord}
@@ -83,7 +83,7 @@ module _ (truth : TruthIsSettled) {D : Type 0} (told : D → DiskTold) (disk : D
       by_wrote : (wrote : Result (Unit {0}) Fault) → s ≡ status_after end.status wrote → (s ≡ k) ⊎ IsHindered s
       by_wrote (Ok x) e = inl (e ∙ zero ∙ sym due)
       by_wrote (Err Failed) e = inr (by_write (e ∙ ap (λ p. first_fault p 9) zero))
-      by_wrote (Err SinkStarved) e = inr (by_memory (e ∙ ap (λ p. first_fault p 8) zero))
+      by_wrote (Err SinkOutOfMemory) e = inr (by_memory (e ∙ ap (λ p. first_fault p 8) zero))
 
   -- a fault is planned
   stays : (j : ℕ) → end.status ≡ j → j ≢ 0 → s ≡ j
@@ -92,8 +92,8 @@ module _ (truth : TruthIsSettled) {D : Type 0} (told : D → DiskTold) (disk : D
   status_of_end : (status : ℕ) (output : List ℕ) (d : D) → end ≡ ending status output d → end.status ≡ status
   status_of_end status output d e = ap (λ (x : End D). x.status) e
 
-  starved : end.status ≡ 8 → (s ≡ k) ⊎ IsHindered s
-  starved eight = inr (by_memory (stays 8 eight (λ e. omega arith)))
+  out_of_memory : end.status ≡ 8 → (s ≡ k) ⊎ IsHindered s
+  out_of_memory eight = inr (by_memory (stays 8 eight (λ e. omega arith)))
 
   -- what is due for a text that is told
   for_text : (Follows : List ℕ → End D → Type 0) (known : List ℕ) → text.left ≡ Some known → (nat_lt 67108864 (length known) ≡ true → k ≡ 2)
@@ -106,7 +106,7 @@ module _ (truth : TruthIsSettled) {D : Type 0} (told : D → DiskTold) (disk : D
       by_length true e ends = inl (stays 2 (status_of_end 2 too_long disk ends) (λ z. omega arith) ∙ sym (long e))
       by_length false e follows = short e follows
   for_text Follows known is long short (inr (inl (e, fails))) = inr (by_read (stays 6 (ap (λ (x : End D). x.status) e) (λ z. omega arith)))
-  for_text Follows known is long short (inr (inr (e, clean))) = starved (ap (λ (x : End D). x.status) e)
+  for_text Follows known is long short (inr (inr (e, clean))) = out_of_memory (ap (λ (x : End D). x.status) e)
 
   -- ---- a bad text
 
@@ -161,7 +161,7 @@ module _ (truth : TruthIsSettled) {D : Type 0} (told : D → DiskTold) (disk : D
       by_made h c (Err make.NotEmpty) makes three (inl (empty, due)) = absurd (makes.0 empty)
       by_made h c (Err make.NotEmpty) makes three (inr (some, due)) = inl (stays 3 three (λ z. omega arith) ∙ sym due)
       by_made h c (Err make.Disk) makes five due = inr (by_disk (stays 5 five (λ z. omega arith)))
-      by_made h c (Err make.NoMemory) makes eight due = starved eight
+      by_made h c (Err make.NoMemory) makes eight due = out_of_memory eight
 
       by_config : Configures told disk known end → (s ≡ k) ⊎ IsHindered s
       by_config (inl (none, e)) = absurd (let wrong : ◌≡◌ {A = Option (House × Conf)} (Some (house, conf)) None = sym configures ∙ none utf8 in cc)
@@ -171,25 +171,25 @@ module _ (truth : TruthIsSettled) {D : Type 0} (told : D → DiskTold) (disk : D
   served : (outcome : Result (Unit {0}) ServeFault) (first : Kept) (events : List Event) (notes : List LinkNote) (steps : List Step) (last : Kept)
       → Played first events outcome notes steps last → TellsOutcome outcome notes end.status end.output → k ≡ 0 → (s ≡ k) ⊎ IsHindered s
   served (Ok x) first events notes steps last played (inl (zero, is)) due = well zero due
-  served (Ok x) first events notes steps last played (inr (eight, is)) due = starved eight
+  served (Ok x) first events notes steps last played (inr (eight, is)) due = out_of_memory eight
   served (Err serve.Link) first events notes steps last played tells due = absurd (played.no_link_fault refl)
   served (Err serve.Disk) first events notes steps last played (inl (five, is)) due = inr (by_disk (stays 5 five (λ z. omega arith)))
   served (Err serve.Disk) first events notes steps last played (inr (five, is)) due = inr (by_disk (stays 5 five (λ z. omega arith)))
   served (Err serve.Turns) first events notes steps last played (inl (seven, is)) due = inr (by_events (stays 7 seven (λ z. omega arith)))
   served (Err serve.Turns) first events notes steps last played (inr (seven, is)) due = inr (by_events (stays 7 seven (λ z. omega arith)))
-  served (Err serve.NoMemory) first events notes steps last played (inl (eight, is)) due = starved eight
-  served (Err serve.NoMemory) first events notes steps last played (inr (eight, is)) due = starved eight
+  served (Err serve.NoMemory) first events notes steps last played (inl (eight, is)) due = out_of_memory eight
+  served (Err serve.NoMemory) first events notes steps last played (inr (eight, is)) due = out_of_memory eight
 
   due_grow : (rounds : ℕ) → GrowsBy rounds disk end → k ≡ 0 → (s ≡ k) ⊎ IsHindered s
   due_grow rounds ((outcome, notes, steps, last, played, no_fault, none_read, keeps, tells), disk_is) due = by_outcome outcome refl tells
     where
       by_outcome : (o : Result (Unit {0}) ServeFault) → outcome ≡ o → TellsGrown rounds o last end.status end.output → (s ≡ k) ⊎ IsHindered s
       by_outcome (Ok x) e (inl (zero, is)) = well zero due
-      by_outcome (Ok x) e (inr (eight, is)) = starved eight
+      by_outcome (Ok x) e (inr (eight, is)) = out_of_memory eight
       by_outcome (Err serve.Link) e tells = absurd (played.no_link_fault e)
       by_outcome (Err serve.Disk) e tells = absurd (no_fault e)
       by_outcome (Err serve.Turns) e (seven, is) = inr (by_events (stays 7 seven (λ z. omega arith)))
-      by_outcome (Err serve.NoMemory) e (eight, is) = starved eight
+      by_outcome (Err serve.NoMemory) e (eight, is) = out_of_memory eight
 
   due_play : (known : List ℕ) → text.left ≡ Some known → nat_lt 67108864 (length known) ≡ false → IsDueFor (Some Play) known (told disk) k → Plays text text' disk end
       → (s ≡ k) ⊎ IsHindered s
@@ -233,7 +233,7 @@ module _ (truth : TruthIsSettled) {D : Type 0} (told : D → DiskTold) (disk : D
         one_opening (told disk).content (Err (start.Damaged p)) (Err start.NotFormatted) (starts.found honest) not in cc)
     due_unopened command (start.Damaged p, starts, ten, is) (inr (honest, inr (inr (place, damaged, due)))) = inl (stays 10 ten (λ z. omega arith) ∙ sym due)
     due_unopened command (start.Disk, starts, five, is) due = inr (by_disk (stays 5 five (λ z. omega arith)))
-    due_unopened command (start.NoMemory, starts, eight, is) due = starved eight
+    due_unopened command (start.NoMemory, starts, eight, is) due = out_of_memory eight
 
     due_script : (known : List ℕ) → text.left ≡ Some known → nat_lt 67108864 (length known) ≡ false → IsDueFor (Some Script) known (told disk) k → Scripts told text text' disk end
         → (s ≡ k) ⊎ IsHindered s
@@ -252,7 +252,7 @@ module _ (truth : TruthIsSettled) {D : Type 0} (told : D → DiskTold) (disk : D
       where
         by_told : TellsCounts desk.kept end.status end.output → (s ≡ k) ⊎ IsHindered s
         by_told (inl (nought, is)) = well nought (due_opened (Some Check) desk.kept desk.gate (told desk.disk) starts due).2
-        by_told (inr (eight, is)) = starved eight
+        by_told (inr (eight, is)) = out_of_memory eight
 
     -- a fault of the disk
     by_fault : end.status ≡ 5 → (s ≡ k) ⊎ IsHindered s
@@ -269,7 +269,7 @@ module _ (truth : TruthIsSettled) {D : Type 0} (told : D → DiskTold) (disk : D
         by_cut : k ≡ (if is_some (position desk.kept.timeline point) then 0 else 11) → CutsAt told (told disk).honest point desk last end.status end.output s out out' → (s ≡ k) ⊎ IsHindered s
         by_cut is (inl (reads, inl (none, eleven, line))) = inl (stays 11 eleven (λ z. omega arith) ∙ sym (at_point None desk.kept point none is))
         by_cut is (inl (reads, inr (inl (payloads, of, nought, line, writes)))) = well nought (at_point (Some of.place) desk.kept point of.place_is is)
-        by_cut is (inl (reads, inr (inr (eight, line)))) = starved eight
+        by_cut is (inl (reads, inr (inr (eight, line)))) = out_of_memory eight
         by_cut is (inr (inl (failed, (five, line)))) = by_fault five
         by_cut is (inr (inr (rose, (payloads, of, five, short, took)))) = by_fault five
 
@@ -293,7 +293,7 @@ module _ (truth : TruthIsSettled) {D : Type 0} (told : D → DiskTold) (disk : D
 
         by_audit : Due → AuditsAt told (WereOpened told disk desk.kept) desk last end.status end.output → (s ≡ k) ⊎ IsHindered s
         by_audit d (inl (reads, inl audited)) = by_found d audited audited.found refl (are_true d.1.records) refl audited.tells
-        by_audit d (inl (reads, inr (eight, line))) = starved eight
+        by_audit d (inl (reads, inr (eight, line))) = out_of_memory eight
         by_audit d (inr (rose, (five, line))) = by_fault five
 
     due_serve : (command : Option Command) → ((records : List JournalRecord) (kept : Kept) → due_of command records kept ≡ 0) → ServesStore told link link' disk end → IsDueStore command (told disk) k
@@ -308,7 +308,7 @@ module _ (truth : TruthIsSettled) {D : Type 0} (told : D → DiskTold) (disk : D
         by_outcome (Err serve.Link) status zero = inr (by_link (stays 4 status (λ z. omega arith)))
         by_outcome (Err serve.Disk) status zero = inr (by_disk (stays 5 status (λ z. omega arith)))
         by_outcome (Err serve.Turns) status zero = inr (by_events (stays 7 status (λ z. omega arith)))
-        by_outcome (Err serve.NoMemory) status zero = starved status
+        by_outcome (Err serve.NoMemory) status zero = out_of_memory status
 
     -- ---- all commands
 
@@ -354,4 +354,4 @@ module _ (truth : TruthIsSettled) {D : Type 0} (told : D → DiskTold) (disk : D
     -- the status that is due comes, unless the run was hindered
     pub due : (words : List (List ℕ)) → Answers told words text text' link link' s out out' disk end → IsDue (command_of words) (record { text = text; link = link; disk = told disk; out = out }) k → (s ≡ k) ⊎ IsHindered s
     due words (inl does) is = by_command (command_of words) is does
-    due words (inr (kept, (same, e))) is = starved (ap (λ (x : End D). x.status) e)
+    due words (inr (kept, (same, e))) is = out_of_memory (ap (λ (x : End D). x.status) e)

@@ -34,7 +34,7 @@ module _ {D : Type 0} (disk : D) (Follows : List ℕ → End D → Type 0) (old 
   from_read text (gave, done, short) (inl follows) =
       let test : nat_lt 67108864 (length text) ≡ false = grind (arith, nat_tests) in
       inl (text, (whole_text old new text gave done, gave.faults), subst (λ b. MatchBool b (end ≡ ending 2 too_long disk) (Follows text end)) (sym test) follows)
-  from_read text (gave, done, short) (inr starved) = inr (inr (starved, gave.faults))
+  from_read text (gave, done, short) (inr out_of_memory) = inr (inr (out_of_memory, gave.faults))
 
   -- the text was not read
   pub from_unread : (refused : ReadRefused) → ReadsText old new (Err refused) → end ≡ ending (refused_status refused) (refused_line refused) disk

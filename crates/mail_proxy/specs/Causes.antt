@@ -28,11 +28,11 @@ use Rattle.time_desk.specs.Auditing.{false_record}
 use Rattle.time_desk.specs.Opening.{IsDamaged, OpensAs, Starts}
 use Rattle.command_words.specs.declared.commands.Command.{Command}
 use Rattle.command_words.specs.declared.commands.Command.TheVariants.{Cut, Audit}
-use Rattle.mail_proxy.specs.Cutting.{StarvesBegun}
+use Rattle.mail_proxy.specs.Cutting.{RunsOutOfMemoryBegun}
 use Rattle.mail_proxy.specs.Init.{IsNoConfig}
 use Rattle.mail_proxy.specs.Profiles.{TextUse, DeskUse, NoText, Configuration, EventScript, NoDesk, Formatted, Opened, Begun, profile_of, reads_on, takes_script, opens, serves, uses_link, uses_text, writes_more}
 use Rattle.mail_proxy.specs.Lines.{usage, too_long, bad_configuration, bad_line, not_empty, not_a_store, link_fault, disk_fault, read_fault, too_many, no_memory, damaged, no_such_point, false_record_at, lf}
-use Rattle.base_cut.specs.Writing.{Took, WriteFails, WriteStarves, Wrote}
+use Rattle.base_cut.specs.Writing.{Took, WriteFails, WriteRunsOutOfMemory, Wrote}
 use Rattle.mail_proxy.specs.Reading.{ReadFails}
 use Rattle.mail_proxy.specs.Script.{Played, opening}
 use Rattle.mail_proxy.specs.Texts.{IsText}
@@ -200,9 +200,9 @@ IsOutput (Some (Cut point)) old output = IsCut old.disk point output
 IsOutput other old output = Unit {0}
 
 -- a first part of this was written up to want of memory; of a cut at least a byte, unless the sink found none
-abbrev pub Starves : Option Command → Outside → Outside → List ℕ → Type 0
-Starves (Some (Cut point)) old new output = StarvesBegun old.out new.out output
-Starves other old new output = WriteStarves old.out new.out output
+abbrev pub RunsOutOfMemory : Option Command → Outside → Outside → List ℕ → Type 0
+RunsOutOfMemory (Some (Cut point)) old new output = RunsOutOfMemoryBegun old.out new.out output
+RunsOutOfMemory other old new output = WriteRunsOutOfMemory old.out new.out output
 
 module _ (command : Option Command) (old new : Outside) where
   -- a script was served well, so that none of its strings was missed or left out, and its transcript was written whole
@@ -254,11 +254,11 @@ module _ (command : Option Command) (old new : Outside) where
       ⊎ ((uses_link command ≡ true) × RanOn command old.disk old.link new.link × Wrote old.out new.out too_many)
 
   -- 8: the last line is that of want of memory, maybe behind a transcript; or the sink found no memory before that
-  abbrev pub EndsStarved : Type 0
-  EndsStarved =
+  abbrev pub EndsOutOfMemory : Type 0
+  EndsOutOfMemory =
       (front : List ℕ)
       × ((IsFront command old.text.left old.disk (Err NoMemory) front × Wrote old.out new.out (front ++ no_memory))
-      ⊎ (IsOutput command old front × Starves command old new front))
+      ⊎ (IsOutput command old front × RunsOutOfMemory command old new front))
 
   -- 9: there was a desk, and a write of the transcript, the counts, the cut or the audit's answer failed
   abbrev pub EndsUnwritten : Type 0
@@ -287,7 +287,7 @@ pub record Comes (command : Option Command) (old new : Outside) (status : ℕ) :
   pub disk_fault : status ≡ 5 → EndsFailed command old new
   pub read_fault : status ≡ 6 → EndsUnread command old new
   pub too_many : status ≡ 7 → EndsLate command old new
-  pub no_memory : status ≡ 8 → EndsStarved command old new
+  pub no_memory : status ≡ 8 → EndsOutOfMemory command old new
   pub write_fault : status ≡ 9 → EndsUnwritten command old new
   pub damaged : status ≡ 10 → EndsDamaged command old new
   pub no_point : status ≡ 11 → EndsPointless command old new

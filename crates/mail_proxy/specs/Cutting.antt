@@ -55,15 +55,15 @@ cut_status cut.NoMemory = 8
 
 -- The sink took a first part of this, and not all, and then a write found no memory, and there was no write after it; or some bytes were
 -- written, and no memory was found for what was to be written next.
-abbrev pub StarvesBegun : SinkTold → SinkTold → List ℕ → Type 0
-StarvesBegun old new bytes =
+abbrev pub RunsOutOfMemoryBegun : SinkTold → SinkTold → List ℕ → Type 0
+RunsOutOfMemoryBegun old new bytes =
     (front : List ℕ) × (back : List ℕ) × (bytes ≡ front ++ back) × (0 < length back) × (before : SinkTold) × Took old before front
     × (WantsToWrite before new ⊎ ((new ≡ before) × (0 < length front)))
 
 -- with this status a journal of these payloads was to be written: with 0 each payload has a frame, and with 8 it was begun unless the sink
 -- found no memory
 abbrev pub WritesJournal : List (List ℕ) → ℕ → SinkTold → SinkTold → Type 0
-WritesJournal payloads status old new = (status ≡ 0 → AllByRecursion IsPayload payloads) × (status ≡ 8 → StarvesBegun old new (closed_journal payloads))
+WritesJournal payloads status old new = (status ≡ 0 → AllByRecursion IsPayload payloads) × (status ≡ 8 → RunsOutOfMemoryBegun old new (closed_journal payloads))
 
 -- these are a first part of a journal of these payloads, which was begun, and no journal
 pub record IsShort (payloads : List (List ℕ)) (bytes : List ℕ) : Type 0 where

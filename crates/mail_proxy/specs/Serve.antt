@@ -15,7 +15,7 @@ use Rattle.desk_journal.specs.Records.{is_withdrawal}
 use Rattle.desk_journal.specs.Sealing.{Seals}
 use Rattle.mail_loop.specs.declared.serve.ServeFault.{ServeFault}
 use Rattle.mail_loop.specs.declared.serve.ServeFault.TheVariants.{Disk}
-use Rattle.mail_loop.specs.Serving.{Step, ServedOver, reads_in, starved_in, unsealed_in}
+use Rattle.mail_loop.specs.Serving.{Step, ServedOver, reads_in, out_of_memory_in, unsealed_in}
 use Rattle.mail_loop.specs.Acknowledged.{AnswersLast, WentThrough}
 use Rattle.mail_proxy.specs.Opening.{OpensNone}
 use Rattle.mail_proxy.specs.Script.{IsKeptWell, Journals, last_line, status_of}
@@ -35,7 +35,7 @@ pub record ServesLink {D : Type 0} (told : D → DiskTold) (link link' : LinkTol
   pub output_is : output ≡ last_line outcome
   pub seals : Seals told added (unsealed_in steps first.kept) first last
   pub read : HaveRead told first last (reads_in steps first.kept)
-  pub starved : Counted (starved_in steps first.kept) (told first.disk).starved (told last.disk).starved
+  pub out_of_memory : Counted (out_of_memory_in steps first.kept) (told first.disk).out_of_memory (told last.disk).out_of_memory
   pub disk_fault : outcome ≡ Err Disk → WriteFailed (told first.disk) (told last.disk)
   pub through : WentThrough told steps first last
   pub well : HoldsTexts told first → IsKeptWell first.kept last.kept

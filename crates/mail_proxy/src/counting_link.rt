@@ -11,7 +11,7 @@ use undo_outside::{Event, Events, Fault, Link, LinkFault, LinkNotes, MemLink};
 #[derive(Debug, Drop)]
 pub struct CountingLink {
     link: MemLink,
-    starved: u64,
+    out_of_memory: u64,
 }
 
 impl CountingLink {
@@ -20,11 +20,11 @@ impl CountingLink {
         ensures log { (⟦<CountingLink as Link>⟧.told result).log ≡ Some [] }
         ensures coming { (⟦<CountingLink as Link>⟧.told result).coming ≡ Some (with_end 0 events) }
         ensures reliable { (⟦<CountingLink as Link>⟧.told result).is_reliable ≡ true }
-        ensures starved { (⟦<CountingLink as Link>⟧.told result).starved ≡ 0 }
+        ensures out_of_memory { (⟦<CountingLink as Link>⟧.told result).out_of_memory ≡ 0 }
     {
         CountingLink {
             link: MemLink::new(alloc, events, Numbers::new(alloc)),
-            starved: 0,
+            out_of_memory: 0,
         }
     }
 
@@ -36,29 +36,29 @@ impl CountingLink {
     }
 
     /// How many calls found no memory so far.
-    pub fn starved(&self) -> u64
-        ensures { result ≡ (⟦<CountingLink as Link>⟧.told self.now).starved }
+    pub fn out_of_memory(&self) -> u64
+        ensures { result ≡ (⟦<CountingLink as Link>⟧.told self.now).out_of_memory }
     {
-        self.starved
+        self.out_of_memory
     }
 }
 
 /// A call found no memory.
-fn count(starved: &mut u64)
-    ensures { RoseOnce starved.old starved.new }
+fn count(out_of_memory: &mut u64)
+    ensures { RoseOnce out_of_memory.old out_of_memory.new }
 {
-    *starved = starved.saturating_add(1);
+    *out_of_memory = out_of_memory.saturating_add(1);
 }
 
 impl Link for CountingLink {
-    ghost told = { λ l. record (⟦<MemLink as Link>⟧.told l.link) { starved = l.starved } };
+    ghost told = { λ l. record (⟦<MemLink as Link>⟧.told l.link) { out_of_memory = l.out_of_memory } };
 
     fn next(&mut self) -> Result<Event, LinkFault> {
         match self.link.next() {
             Ok(event) => Ok(event),
             Err(Fault::Failed) => Err(Fault::Failed),
             Err(Fault::NoMemory) => {
-                count(&mut self.starved);
+                count(&mut self.out_of_memory);
                 Err(Fault::NoMemory)
             }
         }
@@ -69,7 +69,7 @@ impl Link for CountingLink {
             Ok(()) => Ok(()),
             Err(Fault::Failed) => Err(Fault::Failed),
             Err(Fault::NoMemory) => {
-                count(&mut self.starved);
+                count(&mut self.out_of_memory);
                 Err(Fault::NoMemory)
             }
         }
@@ -79,7 +79,7 @@ impl Link for CountingLink {
         match self.link.close(conn) {
             Ok(()) => Ok(()),
             Err(NoMemory) => {
-                count(&mut self.starved);
+                count(&mut self.out_of_memory);
                 Err(NoMemory)
             }
         }

@@ -34,23 +34,23 @@ pub fn serve_script<R: Threads + Sync, D: Disk + Drop, G: Gate>(
     let served = outcome_over(&link, ended);
     match transcript(alloc, link.log()) {
         Ok(transcript) => plan_of(served, transcript),
-        Err(NoMemory) => plan_of(or_starved(served), Text::new(alloc)),
+        Err(NoMemory) => plan_of(or_out_of_memory(served), Text::new(alloc)),
     }
 }
 
 /// What serving over a link came to: want of memory where a call of the link found none, and no fault came before.
 pub fn outcome_over(link: &CountingLink, ended: Result<(), ServeFault>) -> Result<(), ServeFault>
-    ensures { result ≡ unless_left_out (⟦<CountingLink as Link>⟧.told link.now).starved ended }
+    ensures { result ≡ unless_left_out (⟦<CountingLink as Link>⟧.told link.now).out_of_memory ended }
 {
-    if link.starved() == 0 {
+    if link.out_of_memory() == 0 {
         ended
     } else {
-        or_starved(ended)
+        or_out_of_memory(ended)
     }
 }
 
 /// Want of memory, where no fault came before.
-fn or_starved(served: Result<(), ServeFault>) -> Result<(), ServeFault>
+fn or_out_of_memory(served: Result<(), ServeFault>) -> Result<(), ServeFault>
     ensures { result ≡ or_no_memory served }
 {
     match served {

@@ -84,7 +84,6 @@ module _ (first passes : BoxId → Bool) (are : AreTogether first passes) where
     | false ↦ λ e. refl
   ] refl
 
-  -- the run
   pub run_is : (rs : Boxes) (n : ℕ) → is_rising rs ≡ true → n ≡ front (of_row passes) (rows_from first rs) → take n (rows_from first rs) ≡ filter (of_row passes) rs
   run_is rs n rising is =
       ap (λ (k : ℕ). take k (rows_from first rs)) is

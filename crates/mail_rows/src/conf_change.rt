@@ -24,7 +24,6 @@ pub enum ConfChange {
     SetFilter(Filter),
     /// The filters of a name go.
     DropFilter(Name),
-    /// Nothing.
     Nothing,
 }
 

@@ -1,5 +1,6 @@
-//! The header of a text as filters look at it: cut into its fields once for all of them, each field's name brought to lower case
-//! once, and the values of a name found by halves, whatever the number of fields and of filters (RFC 5322, section 2.2).
+//! The header of a text as filters look at it (RFC 5322, section 2.2). It is cut into its fields once for all of them, each
+//! field's name brought to lower case once. The values of a name are found by halves, whatever the number of fields and of
+//! filters.
 ghost use Rattle.std.specs.Prelude.{◌≡◌, ◌∷◌, ◌++◌, ◌&&◌, ◌||◌, [], IfOk, OnOk, bytes_eq};
 ghost use Rattle.std.specs.List.{list_any};
 ghost use Rattle.std.specs.Ordering.{nat_cmp};
@@ -131,7 +132,6 @@ impl<'a> Header<'a> {
         Header { text, fields: None }
     }
 
-    /// The text.
     pub(crate) fn text(&self) -> &'a [u8]
         ensures { result.now ≡ self.now }
     {

@@ -16,10 +16,10 @@ use verb_core::{Act, Alias, Conf, Filter, House};
 /// How many aliases or filters a configuration has at most.
 const MOST_HELD: usize = 4_294_967_295;
 
-/// The configuration in force; whether its aliases' local parts are known to rise, as those of a configuration's text do,
-/// so that one is found by halves; the places of its first filters by rising name, all of them once a change of filters is
-/// ready, unless two have one name; what is to change in it, and empty lists that have room for all, where the
-/// configuration's own have none left.
+/// The configuration in force; whether its aliases' local parts are known to rise, as those of a configuration's text do, so that
+/// one is found by halves. The places of its first filters by rising name, all of them once a change of filters is ready, unless
+/// two have one name. What is to change in it, and empty lists that have room for all, where the configuration's own have none
+/// left.
 #[derive(Drop)]
 pub struct HeldConf {
     conf: Conf,

@@ -48,7 +48,6 @@ pub fn rows_of<'a>(rows: &'a [(BoxId, Mailbox)], user: User) -> &'a [(BoxId, Mai
     before(rest, rest.partition_point(|row| user == row.0.user))
 }
 
-/// Copies of the rows.
 pub fn copied_rows(alloc: Global, rows: &[(BoxId, Mailbox)]) -> Result<Rows, NoMemory>
     ensures { IfOk result (λ copies. copies ≡ rows.now) }
 {

@@ -73,9 +73,9 @@ fn fields(
     Ok(told)
 }
 
-/// What is asked of a text (RFC 3501, section 6.4.5): all of it, its header through the first empty line, what follows that, or the
-/// fields of the header with or without the listed names and the empty line; and of this the part that is asked. The text has at
-/// most `MOST_TEXT` bytes. The one error is want of memory.
+/// What is asked of a text (RFC 3501, section 6.4.5): all of it, its header through the first empty line, or what follows that. Or
+/// the fields of the header with or without the listed names and the empty line. Of this it is the part that is asked. The text has
+/// at most `MOST_TEXT` bytes. The one error is want of memory.
 pub fn section(alloc: Global, text: &[u8], ask: &SectionAsk) -> Result<Text, NoMemory>
     ensures { IfOk result (λ told. told ≡ section_of ask.now text.now) }
 {

@@ -10,7 +10,6 @@ use Rattle.paradox.specs.declared.words.Reason.{Reason}
 use Rattle.paradox.specs.declared.words.Reason.TheVariants.{Missing, Changed, NoName, Fewer, Redirected, Left, Renamed, Moved, Withdrawn}
 use Rattle.paradox.specs.declared.reports.BrokenItem.{BrokenItem}
 
--- the word of a verb
 abbrev pub verb_word : Verb → List ℕ
 verb_word verb.Deliver = codes "DELIVER"
 verb_word verb.Append = codes "APPEND"

@@ -1,9 +1,8 @@
 //! After a cycle: whether an answer that a user was shown still holds, and the notice that tells the user.
 //!
-//! `answers` compares what was shown with what would be shown now, and `among` looks for the one in the other;
-//! `words` has the verbs and the reasons, `reports` what a cycle reports, `letters` writes to users.
-//! What carries the crate: `broken` is the table of reasons over what was shown and what is shown now, and `notice`
-//! is the text that names exactly a user's broken items.
+//! `answers` compares what was shown with what would be shown now, and `among` looks for the one in the other. `words` has the
+//! verbs and the reasons, `reports` what a cycle reports, `letters` writes to users. What carries the crate: `broken` is the
+//! table of reasons over what was shown and what is shown now, and `notice` is the text that names exactly a user's broken items.
 #![tactic(auto)]
 
 mod among;

@@ -17,8 +17,8 @@ pub struct BrokenItem {
     pub reason: Reason,
 }
 
-/// What a cycle did: its number, the number of its point, how many later items were kept, the broken and withdrawn
-/// items, the numbers of the notices, the mailboxes with a new stamp, and the numbers that were asked in vain.
+/// What a cycle did: its number, the number of its point, how many later items were kept, and the broken and withdrawn items. And
+/// the numbers of the notices, the mailboxes with a new stamp, and the numbers that were asked in vain.
 #[derive(Debug, Drop, PartialEq, Eq)]
 pub struct Report {
     pub cycle: u32,

@@ -16,8 +16,8 @@ abbrev brings : Body → Item → Bool
 brings body i = (i.number == body.origin) && (i.rev == body.rev) && is_some (text_in i.deed)
 
 -- if it did, it is this text
-abbrev Tells : Body → List ℕ → Item → Type 0
-Tells body text i = brings body i ≡ true → text_in i.deed ≡ Some text
+abbrev HasText : Body → List ℕ → Item → Type 0
+HasText body text i = brings body i ≡ true → text_in i.deed ≡ Some text
 
 number_of : (body : Body) (i : Item) → brings body i ≡ true → i.number ≡ body.origin
 number_of body i h = eqb-true i.number body.origin (first_so (i.number == body.origin) _ (first_so _ (is_some (text_in i.deed)) h))
@@ -26,20 +26,20 @@ rev_is : (body : Body) (i : Item) → brings body i ≡ true → i.rev ≡ body.
 rev_is body i h = eqb-true i.rev body.rev (second_so (i.number == body.origin) _ (first_so _ (is_some (text_in i.deed)) h))
 
 -- of the items that have the number of none of these, each tells what one likes
-others_tell : (body : Body) (text : List ℕ) (number : ℕ) (t : List Item) → number ≡ body.origin → AllByRecursion (λ (j : Item). number ≢ j.number) t → AllByRecursion (Tells body text) t
-others_tell body text number t is apart = weaker (λ (j : Item). number ≢ j.number) (Tells body text) (λ j differs h. absurd (differs (is ∙ sym (number_of body j h)))) t apart
+others_tell : (body : Body) (text : List ℕ) (number : ℕ) (t : List Item) → number ≡ body.origin → AllByRecursion (λ (j : Item). number ≢ j.number) t → AllByRecursion (HasText body text) t
+others_tell body text number t is apart = weaker (λ (j : Item). number ≢ j.number) (HasText body text) (λ j differs h. absurd (differs (is ∙ sym (number_of body j h)))) t apart
 
 -- all items of a timeline that bring a body's text bring the one that is found
-all_tell : (body : Body) (text : List ℕ) (t : List Item) → NumbersApart t → text_of t body ≡ Some text → AllByRecursion (Tells body text) t
+all_tell : (body : Body) (text : List ℕ) (t : List Item) → NumbersApart t → text_of t body ≡ Some text → AllByRecursion (HasText body text) t
 all_tell body text [] apart e = cc
 all_tell body text (i ∷ t) apart e = by (brings body i) refl e (all_tell body text t apart.1)
   where
-    by : (b : Bool) → brings body i ≡ b → option_and_then (λ (j : Item). text_in j.deed) (cond b (Some i) (find (brings body) t)) ≡ Some text → (text_of t body ≡ Some text → AllByRecursion (Tells body text) t) → AllByRecursion (Tells body text) (i ∷ t)
+    by : (b : Bool) → brings body i ≡ b → option_and_then (λ (j : Item). text_in j.deed) (cond b (Some i) (find (brings body) t)) ≡ Some text → (text_of t body ≡ Some text → AllByRecursion (HasText body text) t) → AllByRecursion (HasText body text) (i ∷ t)
     by true here e rest = ((λ h. e), others_tell body text i.number t (number_of body i here) apart.0)
     by false here e rest = ((λ h. absurd (true≢false (sym h ∙ here))), rest e)
 
 -- what is found is what all tell
-told : (body : Body) (x y : List ℕ) (t : List Item) → AllByRecursion (Tells body x) t → text_of t body ≡ Some y → x ≡ y
+told : (body : Body) (x y : List ℕ) (t : List Item) → AllByRecursion (HasText body x) t → text_of t body ≡ Some y → x ≡ y
 told body x y [] all e = cc
 told body x y (i ∷ t) all e = by (brings body i) refl e (told body x y t all.1)
   where
@@ -64,10 +64,10 @@ low body x c (i ∷ t) before e = by (brings body i) refl e (low body x c t befo
         (omega arith, omega arith)
     by false here e rest = rest e
 
-repaired_tells : (body : Body) (x : List ℕ) (ask : CycleAsk) (c : ℕ) → body.rev < c → (i : Item) → Tells body x i → Tells body x (repaired ask c i)
-repaired_tells body x ask c before i tells = elim (text_asked ask.replaces i.number) as (λ o. Tells body x (replaced_by c i o)) [
+repaired_tells : (body : Body) (x : List ℕ) (ask : CycleAsk) (c : ℕ) → body.rev < c → (i : Item) → HasText body x i → HasText body x (repaired ask c i)
+repaired_tells body x ask c before i tells = elim (text_asked ask.replaces i.number) as (λ o. HasText body x (replaced_by c i o)) [
   | None ↦ tells
-  | Some text ↦ elim (takes_text i.deed) as (λ b. Tells body x (cond b (record i { rev = c; deed = with_text text i.deed }) i)) [
+  | Some text ↦ elim (takes_text i.deed) as (λ b. HasText body x (cond b (record i { rev = c; deed = with_text text i.deed }) i)) [
     | true ↦ λ h. let wrong : c ≡ body.rev = rev_is body (record i { rev = c; deed = with_text text i.deed }) h in absurd (omega arith)
     | false ↦ tells
   ]
@@ -77,11 +77,11 @@ pub one_text : (t : List Item) (ask : CycleAsk) (c at place : ℕ) (body : Body)
     → text_of t body ≡ Some x → text_of (new_timeline t ask c at place) body ≡ Some y → x ≡ y
 one_text t ask c at place body x y apart before old new =
     let is = low body x c t before old in
-    let tell : AllByRecursion (Tells body x) t = all_tell body x t apart old in
+    let tell : AllByRecursion (HasText body x) t = all_tell body x t apart old in
     told body x y (new_timeline t ask c at place)
-    (everywhere (Tells body x) t ask c at place (taken (Tells body x) place t tell)
-    (weaker (λ (j : Item). c < j.number) (Tells body x) (λ j above h. let same : j.number ≡ body.origin = number_of body j h in let lower : body.origin < c = is.0 in absurd (omega arith)) (inserted c at ask.inserts) (inserted_above c c at ask.inserts (omega arith)))
-    (mapped (Tells body x) (Tells body x) (repaired ask c) (repaired_tells body x ask c is.1) (kept ask (drop place t)) (passing (Tells body x) _ (drop place t) (rest_of (Tells body x) place t tell))))
+    (everywhere (HasText body x) t ask c at place (taken (HasText body x) place t tell)
+    (weaker (λ (j : Item). c < j.number) (HasText body x) (λ j above h. let same : j.number ≡ body.origin = number_of body j h in let lower : body.origin < c = is.0 in absurd (omega arith)) (inserted c at ask.inserts) (inserted_above c c at ask.inserts (omega arith)))
+    (mapped (HasText body x) (HasText body x) (repaired ask c) (repaired_tells body x ask c is.1) (kept ask (drop place t)) (passing (HasText body x) _ (drop place t) (rest_of (HasText body x) place t tell))))
     new
 
 -- ---- from the new timeline back

@@ -172,8 +172,8 @@ pub fn edit_at(
     })
 }
 
-/// The timeline after the repairs of the cycle `c` at a moment: the items through the point, the acts that come in with the
-/// numbers behind `c`, and the later items that stay, those whose text was replaced with the rev `c`. In time that grows as
+/// The timeline after the repairs of the cycle `c` at a moment. That is the items through the point, the acts that come in with
+/// the numbers behind `c`, and the later items that stay, those whose text was replaced with the rev `c`. In time that grows as
 /// the timeline and the ask times the logarithm of the ask, beside the copies of texts.
 pub fn edit(
     alloc: Global,

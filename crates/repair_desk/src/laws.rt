@@ -15,8 +15,8 @@ ghost use Rattle.verb_bytes.specs.declared.journal.CycleAsk.{CycleAsk};
 ghost use Rattle.repair_desk.specs.Renewals.{extends, extends_one, renewed, stamp_after};
 ghost use Rattle.repair_desk.specs.Repairs.{are_known, dropped, is_among, is_dropped, new_timeline, numbers_of, position, replaced, takes_text};
 
-/// A repaired timeline is one: its items are well formed and their numbers distinct, where the acts that come in name known
-/// users and the cycle's number is above those of the timeline. The numbers are at most that of the last act, and the revs
+/// A repaired timeline is one: its items are well formed and their numbers distinct. That is so where the acts that come in name
+/// known users and the cycle's number is above those of the timeline. The numbers are at most that of the last act, and the revs
 /// at most the cycle's number.
 pub fn repaired_timelines_are_timelines()
     ensures timeline { (house : House) (t : List Item) (ask : CycleAsk) (c at place : ℕ) → IsTimeline house t →

@@ -1,12 +1,11 @@
 //! The operator's repairs of a timeline, and the stamps of mailboxes after them.
 //!
-//! `edit` (in `editing`) makes the new timeline, and `edit_at` where the place of the point is known, `edit_behind` but for the first items, which stay: `point` finds where it
-//! is cut; `items` copies items and makes those of acts; `inserts` and `later` make what stands behind the point; `unmatched`
-//! tells the asked numbers that did nothing.
-//! `asked` has what is asked, to be looked up by number, and `numbers` sets of numbers.
-//! `renew` (in `renewing`) makes the stamps after a cycle from the stores before and after it.
-//! What carries the crate: `edit` answers `edited`, exactly where the timeline has the point; `renew` answers `renewed`.
-//! `laws` has what holds of every repaired timeline, and of stamps: an item extends the mailboxes that stay.
+//! `edit` (in `editing`) makes the new timeline. `edit_at` does where the place of the point is known, and `edit_behind` but for the first items,
+//! which stay. `point` finds where it is cut; `items` copies items and makes those of acts. `inserts` and `later` make what stands behind the point;
+//! `unmatched` tells the asked numbers that did nothing. `asked` has what is asked, to be looked up by number, and `numbers` sets of numbers. `renew`
+//! (in `renewing`) makes the stamps after a cycle from the stores before and after it. What carries the crate: `edit` answers `edited`, exactly where
+//! the timeline has the point; `renew` answers `renewed`. `laws` has what holds of every repaired timeline, and of stamps: an item extends the
+//! mailboxes that stay.
 #![tactic(auto)]
 
 mod asked;

@@ -15,7 +15,7 @@ use Rattle.touch_rules.specs.Swapping.{sets_conf, resolved}
 use Rattle.replay_plan.specs.Placing.{Placed as WithLevel, may_have, level_behind, levels_behind, levels_by_item, levels_of, places_of, run_from, highest, least_from}
 use Rattle.replay_plan.proofs.Gathered.{places_from, highest_is_max}
 use Rattle.replay_plan.proofs.Least.{both, above, least_low, least_high, least_passes, levels_more, length_levels}
-use Rattle.replay_crew.specs.Orders.{Turn, turns, Placed, may_turn, are_apart, all_apart, IsOrder, at_places, by_levels, levels_at, touches_by_turn}
+use Rattle.replay_crew.specs.Orders.{SoughtItem, turns, Placed, may_turn, are_apart, all_apart, IsOrder, at_places, by_levels, levels_at, touches_by_turn}
 use Rattle.replay_crew.proofs.Turning.{append_assoc}
 
 -- ---- lists
@@ -168,7 +168,7 @@ AllFound all (p ∷ ps) = (find (λ (q : Placed). q.0 == p.0) all ≡ Some p) ×
 unequal : (a b : ℕ) → (a ≡ b → ⊥) → (a == b) ≡ false
 unequal a b h = elim (a == b) as (λ t. (a == b) ≡ t → t ≡ false) [ true ↦ λ is. absurd (h (eqb-true a b is)) | false ↦ λ _. refl ] refl
 
-skip_front : (n : ℕ) (t : Turn) (front rest : List Placed) → list_all (λ (q : Placed). nat_lt q.0 n) front ≡ true → find (λ (q : Placed). q.0 == n) (front ++ (n, t) ∷ rest) ≡ Some (n, t)
+skip_front : (n : ℕ) (t : SoughtItem) (front rest : List Placed) → list_all (λ (q : Placed). nat_lt q.0 n) front ≡ true → find (λ (q : Placed). q.0 == n) (front ++ (n, t) ∷ rest) ≡ Some (n, t)
 skip_front n t [] rest h = ap (λ b. cond b (Some (n, t)) (find (λ (q : Placed). q.0 == n) rest)) (eq-eqb n n refl)
 skip_front n t (q ∷ front) rest h =
     let less : q.0 < n = ltb-true q.0 n (first_so _ _ h) in
@@ -178,7 +178,7 @@ weaker : (n : ℕ) (front : List Placed) → list_all (λ (q : Placed). nat_lt q
 weaker n [] h = refl
 weaker n (q ∷ front) h = let less : q.0 < n = ltb-true q.0 n (first_so _ _ h) in both _ _ (lt-ltb q.0 (n + 1) (omega (arith, less))) (weaker n front (second_so _ _ h))
 
-found_all : (front : List Placed) (n : ℕ) (ts : List Turn) → list_all (λ (q : Placed). nat_lt q.0 n) front ≡ true → AllFound (front ++ enumerate_from n ts) (enumerate_from n ts)
+found_all : (front : List Placed) (n : ℕ) (ts : List SoughtItem) → list_all (λ (q : Placed). nat_lt q.0 n) front ≡ true → AllFound (front ++ enumerate_from n ts) (enumerate_from n ts)
 found_all front n [] h = tt
 found_all front n (t ∷ ts) h = (
   skip_front n t front (enumerate_from (n + 1) ts) h,
@@ -186,7 +186,7 @@ found_all front n (t ∷ ts) h = (
       (found_all (front ++ (n, t) ∷ []) (n + 1) ts (all_join (λ (q : Placed). nat_lt q.0 (n + 1)) front ((n, t) ∷ []) (weaker n front h) (both _ _ (lt-ltb n (n + 1) (omega arith)) refl))),
 )
 
-places_are : (all : List Placed) (n : ℕ) (ts : List Turn) (levels : List ℕ) (l : ℕ) → length levels ≡ length ts → AllFound all (enumerate_from n ts)
+places_are : (all : List Placed) (n : ℕ) (ts : List SoughtItem) (levels : List ℕ) (l : ℕ) → length levels ≡ length ts → AllFound all (enumerate_from n ts)
     → at_places all (places_from n levels l) ≡ map (λ (q : Leveled). q.0) (filter (λ (x : Leveled). x.1 == l) (zip (enumerate_from n ts) levels))
 places_are all n [] [] l same found = refl
 places_are all n [] (m ∷ levels) l same found = absurd (omega (arith, same))
@@ -197,7 +197,7 @@ places_are all n (t ∷ ts) (m ∷ levels) l same found = elim (m == l) as (λ b
       | false ↦ places_are all (n + 1) ts levels l (omega (arith, same)) found.1
     ]
 
-plan_is : (ts : List Turn) (levels : List ℕ) → length levels ≡ length ts → (count low : ℕ) → by_levels (map (places_of levels) (run_from low count)) (enumerate_from 0 ts) ≡ sorted low count (zip (enumerate_from 0 ts) levels)
+plan_is : (ts : List SoughtItem) (levels : List ℕ) → length levels ≡ length ts → (count low : ℕ) → by_levels (map (places_of levels) (run_from low count)) (enumerate_from 0 ts) ≡ sorted low count (zip (enumerate_from 0 ts) levels)
 plan_is ts levels same zero low = refl
 plan_is ts levels same (suc count) low = ap₂ (λ a b. a ++ b) (places_are (enumerate_from 0 ts) 0 ts levels low same (found_all [] 0 ts refl)) (plan_is ts levels same count (low + 1))
 
@@ -239,10 +239,10 @@ level_none earlier = go (length earlier)
     go zero = refl
     go (suc count) = ap (λ b. cond b 1 (least_from (may_have earlier []) count (1 + 1))) (may_none earlier 1)
 
-abbrev touch_of : Turn → List Touch
+abbrev touch_of : SoughtItem → List Touch
 touch_of t = touches_of (resolved t.0 t.1)
 
-no_touch : (t : Turn) → sets_conf t.1.deed ≡ true → touch_of t ≡ []
+no_touch : (t : SoughtItem) → sets_conf t.1.deed ≡ true → touch_of t ≡ []
 no_touch t h = go t.1.deed h
   where
     go : (d : Deed) → sets_conf d ≡ true → touches_of (resolved t.0 (record t.1 { deed = d })) ≡ []
@@ -253,7 +253,7 @@ no_touch t h = go t.1.deed h
     go _ h = absurd (true≢false (sym h))
 
 module _ (a : Placed) (l : ℕ) (one : sets_conf a.1.1.deed ≡ true → l ≡ 1) where
-  later_one : (front back : List WithLevel) (n : ℕ) (ts : List Turn) → highest (map (λ (e : WithLevel). e.1) (front ++ (touch_of a.1, l) ∷ back)) ≤ length (front ++ (touch_of a.1, l) ∷ back)
+  later_one : (front back : List WithLevel) (n : ℕ) (ts : List SoughtItem) → highest (map (λ (e : WithLevel). e.1) (front ++ (touch_of a.1, l) ∷ back)) ≤ length (front ++ (touch_of a.1, l) ∷ back)
       → list_all (λ (y : Leveled). not (nat_lt y.1 l) || may_turn a y.0) (zip (enumerate_from n ts) (levels_behind (front ++ (touch_of a.1, l) ∷ back) (touches_by_turn ts))) ≡ true
   later_one front back n [] few = refl
   later_one front back n (t ∷ ts) few =
@@ -281,7 +281,7 @@ module _ (a : Placed) (l : ℕ) (one : sets_conf a.1.1.deed ≡ true → l ≡ 1
       must false true h k = absurd (h refl)
       must false false h k = k
 
-fine_levels : (earlier : List WithLevel) (n : ℕ) (ts : List Turn) → highest (map (λ (e : WithLevel). e.1) earlier) ≤ length earlier → fine (zip (enumerate_from n ts) (levels_behind earlier (touches_by_turn ts))) ≡ true
+fine_levels : (earlier : List WithLevel) (n : ℕ) (ts : List SoughtItem) → highest (map (λ (e : WithLevel). e.1) earlier) ≤ length earlier → fine (zip (enumerate_from n ts) (levels_behind earlier (touches_by_turn ts))) ≡ true
 fine_levels earlier n [] few = refl
 fine_levels earlier n (t ∷ ts) few =
     let v : ℕ = level_behind earlier (touch_of t) in
@@ -308,15 +308,15 @@ firsts [] (l ∷ levels) same = absurd (omega (arith, same))
 firsts (p ∷ ps) [] same = absurd (omega (arith, same))
 firsts (p ∷ ps) (l ∷ levels) same = ap (λ r. p ∷ r) (firsts ps levels (omega (arith, same)))
 
-length_enumerate : (n : ℕ) (ts : List Turn) → length (enumerate_from n ts) ≡ length ts
+length_enumerate : (n : ℕ) (ts : List SoughtItem) → length (enumerate_from n ts) ≡ length ts
 length_enumerate n [] = refl
 length_enumerate n (t ∷ ts) = ap suc (length_enumerate (n + 1) ts)
 
-length_touches : (ts : List Turn) → length (touches_by_turn ts) ≡ length ts
+length_touches : (ts : List SoughtItem) → length (touches_by_turn ts) ≡ length ts
 length_touches [] = refl
 length_touches (t ∷ ts) = ap suc (length_touches ts)
 
-order_of : (ts : List Turn) → IsOrder (by_levels (levels_of (touches_by_turn ts)) (enumerate_from 0 ts)) (enumerate_from 0 ts)
+order_of : (ts : List SoughtItem) → IsOrder (by_levels (levels_of (touches_by_turn ts)) (enumerate_from 0 ts)) (enumerate_from 0 ts)
 order_of ts =
     let levels : List ℕ = levels_by_item (touches_by_turn ts) in
     let many : length levels ≡ length ts = length_levels [] (touches_by_turn ts) ∙ length_touches ts in
@@ -334,7 +334,7 @@ apart_fine [] = true
 apart_fine (x ∷ xs) = list_all (λ (y : Leveled). not (y.1 == x.1) || are_apart x.0 y.0) xs && apart_fine xs
 
 module _ (a : Placed) (l : ℕ) where
-  later_apart : (front back : List WithLevel) (n : ℕ) (ts : List Turn) → highest (map (λ (e : WithLevel). e.1) (front ++ (touch_of a.1, l) ∷ back)) ≤ length (front ++ (touch_of a.1, l) ∷ back)
+  later_apart : (front back : List WithLevel) (n : ℕ) (ts : List SoughtItem) → highest (map (λ (e : WithLevel). e.1) (front ++ (touch_of a.1, l) ∷ back)) ≤ length (front ++ (touch_of a.1, l) ∷ back)
       → list_all (λ (y : Leveled). not (y.1 == l) || are_apart a y.0) (zip (enumerate_from n ts) (levels_behind (front ++ (touch_of a.1, l) ∷ back) (touches_by_turn ts))) ≡ true
   later_apart front back n [] few = refl
   later_apart front back n (t ∷ ts) few =
@@ -356,7 +356,7 @@ module _ (a : Placed) (l : ℕ) where
       must false true h k = k
       must false false h k = absurd (true≢false (sym h))
 
-apart_levels : (earlier : List WithLevel) (n : ℕ) (ts : List Turn) → highest (map (λ (e : WithLevel). e.1) earlier) ≤ length earlier → apart_fine (zip (enumerate_from n ts) (levels_behind earlier (touches_by_turn ts))) ≡ true
+apart_levels : (earlier : List WithLevel) (n : ℕ) (ts : List SoughtItem) → highest (map (λ (e : WithLevel). e.1) earlier) ≤ length earlier → apart_fine (zip (enumerate_from n ts) (levels_behind earlier (touches_by_turn ts))) ≡ true
 apart_levels earlier n [] few = refl
 apart_levels earlier n (t ∷ ts) few =
     let v : ℕ = level_behind earlier (touch_of t) in
@@ -381,10 +381,10 @@ abbrev pub EachApart : List (List Placed) → Type 0
 EachApart [] = Unit {0}
 EachApart (level ∷ more) = (all_apart level ≡ true) × EachApart more
 
-each_apart : (ts : List Turn) (levels : List ℕ) → length levels ≡ length ts → apart_fine (zip (enumerate_from 0 ts) levels) ≡ true → (count low : ℕ) → EachApart (levels_at (enumerate_from 0 ts) (map (places_of levels) (run_from low count)))
+each_apart : (ts : List SoughtItem) (levels : List ℕ) → length levels ≡ length ts → apart_fine (zip (enumerate_from 0 ts) levels) ≡ true → (count low : ℕ) → EachApart (levels_at (enumerate_from 0 ts) (map (places_of levels) (run_from low count)))
 each_apart ts levels same h zero low = tt
 each_apart ts levels same h (suc count) low =
     (ap all_apart (places_are (enumerate_from 0 ts) 0 ts levels low same (found_all [] 0 ts refl)) ∙ level_is_apart low (zip (enumerate_from 0 ts) levels) h, each_apart ts levels same h count (low + 1))
 
-pub plan_apart : (ts : List Turn) → EachApart (levels_at (enumerate_from 0 ts) (levels_of (touches_by_turn ts)))
+pub plan_apart : (ts : List SoughtItem) → EachApart (levels_at (enumerate_from 0 ts) (levels_of (touches_by_turn ts)))
 plan_apart ts = each_apart ts (levels_by_item (touches_by_turn ts)) (length_levels [] (touches_by_turn ts) ∙ length_touches ts) (apart_levels [] 0 ts (omega arith)) (highest (levels_by_item (touches_by_turn ts))) 1

@@ -26,7 +26,7 @@ use Rattle.stored_items.proofs.Heard.{handed_on, heard_longer}
 use Rattle.box_store.specs.Kept.{sought_in}
 use Rattle.box_store.specs.Outline.{outline}
 use Rattle.replay_crew.specs.Hearing.{HoldsOf, StoresOf, TellsOf, body_of, heard_as}
-use Rattle.replay_crew.specs.Orders.{AreWellFormed, Turn, turns}
+use Rattle.replay_crew.specs.Orders.{AreWellFormed, SoughtItem, turns}
 use Rattle.replay_crew.specs.Outline.{outline_after}
 use Rattle.replay_crew.specs.Resolving.{AreResolvedFrom, stored_turn, turn_of}
 use Rattle.replay_crew.proofs.OutlineSteps.{aims_on_outline, step_outline}
@@ -211,7 +211,7 @@ house_after base o t is = ap (λ (s : MailStore). s.house) is ∙ run_house base
 
 turns_more : (s : MailStore) (items : List Item) (i : Item) → turns s (items ++ i ∷ []) ≡ turns s items ++ (sought_by (run s items) i, i) ∷ []
 turns_more s [] i = refl
-turns_more s (j ∷ items) i = ap (λ (ts : List Turn). (sought_by s j, j) ∷ ts) (turns_more (step s j).0 items i)
+turns_more s (j ∷ items) i = ap (λ (ts : List SoughtItem). (sought_by s j, j) ∷ ts) (turns_more (step s j).0 items i)
 
 are_formed : (house : House) (items : List Item) → AllByRecursion (IsWellFormed house) items → AreWellFormed house items
 are_formed house [] all = tt
@@ -237,7 +237,7 @@ owns house s items [] formed turned k other lt = absurd (omega arith)
 owns house s [] (r ∷ all) formed turned k other lt = absurd (cc)
 owns house s (i ∷ items) (r ∷ all) formed turned zero other lt =
     let same : turn_of r ≡ stored_turn (sought_by s i, i) = cc in
-    subst (λ (j : Item). is_some j.by ≡ is_own j.deed) (sym (ap (λ (t : Turn). t.1) same)) (formed.0.by ∙ sym (own i.deed))
+    subst (λ (j : Item). is_some j.by ≡ is_own j.deed) (sym (ap (λ (t : SoughtItem). t.1) same)) (formed.0.by ∙ sym (own i.deed))
 owns house s (i ∷ items) (r ∷ all) formed turned (suc k) other lt =
     let rest : map turn_of all ≡ map stored_turn (turns (step s i).0 items) = cc in
     owns house (step s i).0 items all formed.1 rest k other (omega arith)
@@ -284,6 +284,6 @@ module _ (old items : List Item) (k : ℕ) (other new : Item) (lt : k < length i
   next_turn base o all more what is turned here mores =
       let aims : sought_by o new ≡ sought_by (run base (take k items)) new = ap (λ (s : MailStore). sought_by s new) is ∙ aims_on_outline (run base (take k items)) new in
       ap (map turn_of) mores ∙ map-append turn_of all (what ∷ [])
-      ∙ ap₂ (λ (ts : List Turn) (t : Turn). ts ++ t ∷ []) turned (here ∙ ap (λ (to : Sought). stored_turn (to, new)) aims)
+      ∙ ap₂ (λ (ts : List SoughtItem) (t : SoughtItem). ts ++ t ∷ []) turned (here ∙ ap (λ (to : Sought). stored_turn (to, new)) aims)
       ∙ sym (map-append stored_turn (turns base (take k items)) ((sought_by (run base (take k items)) new, new) ∷ []))
       ∙ ap (map stored_turn) (sym (turns_more base (take k items) new) ∙ ap (turns base) (sym taken))

@@ -13,7 +13,7 @@ use Rattle.box_store.specs.Effects.{IsAimed, IsEffect, applied}
 use Rattle.replay_plan.proofs.Least.{both}
 use Rattle.touch_rules.specs.Swapping.{resolved}
 use Rattle.replay_crew.specs.declared.made.Made.{Made}
-use Rattle.replay_crew.specs.Orders.{Turn, Placed, run_turns, are_apart, all_apart, AllFit}
+use Rattle.replay_crew.specs.Orders.{SoughtItem, Placed, run_turns, are_apart, all_apart, AllFit}
 use Rattle.replay_crew.specs.Resolving.{turn_of}
 use Rattle.replay_crew.specs.Working.{level_of, CanMake, IsMade, IsLevel, applied_each, shown_at, answers_on}
 use Rattle.replay_crew.proofs.Turning.{append_assoc, after}
@@ -32,11 +32,11 @@ element [] n h = absurd (omega (arith, h))
 element (x ∷ xs) zero h = (x, (refl, λ d. refl))
 element (x ∷ xs) (suc n) h = element xs n (omega (arith, h))
 
-found_at : (n k m : ℕ) → m ≡ n + k → (ts : List Turn) (t : Turn) → slice_get ts k ≡ Some t → find (λ (p : Placed). p.0 == m) (enumerate_from n ts) ≡ Some (m, t)
+found_at : (n k m : ℕ) → m ≡ n + k → (ts : List SoughtItem) (t : SoughtItem) → slice_get ts k ≡ Some t → find (λ (p : Placed). p.0 == m) (enumerate_from n ts) ≡ Some (m, t)
 found_at n k m same [] t is = absurd (none-some t is)
 found_at n zero m same (u ∷ ts) t is =
     let here : n ≡ m = omega (arith, same) in
-    ap (λ b. cond b (Some (n, u)) (find (λ (p : Placed). p.0 == m) (enumerate_from (n + 1) ts))) (eq-eqb n m here) ∙ ap₂ (λ (a : ℕ) (v : Turn). Some (a, v)) here (same_Some u t is)
+    ap (λ b. cond b (Some (n, u)) (find (λ (p : Placed). p.0 == m) (enumerate_from (n + 1) ts))) (eq-eqb n m here) ∙ ap₂ (λ (a : ℕ) (v : SoughtItem). Some (a, v)) here (same_Some u t is)
 found_at n (suc k) m same (u ∷ ts) t is =
     ap (λ b. cond b (Some (n, u)) (find (λ (p : Placed). p.0 == m) (enumerate_from (n + 1) ts))) (other n m (λ here. omega (arith, same, here))) ∙ found_at (n + 1) k m (omega (arith, same)) ts t is
   where

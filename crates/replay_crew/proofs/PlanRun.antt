@@ -21,7 +21,7 @@ use Rattle.touch_rules.specs.Table.{touches_of}
 use Rattle.replay_plan.specs.Lines.{are_places}
 use Rattle.replay_plan.specs.Placing.{levels_of}
 use Rattle.replay_plan.proofs.Turns.{places_there}
-use Rattle.replay_crew.specs.Orders.{Turn, turns, Placed, run_turns, all_apart, AllFit, AimsHold, AllAimed, at_places, by_levels, touches_by_turn, levels_at, run_levels, told_by_levels}
+use Rattle.replay_crew.specs.Orders.{SoughtItem, turns, Placed, run_turns, all_apart, AllFit, AimsHold, AllAimed, at_places, by_levels, touches_by_turn, levels_at, run_levels, told_by_levels}
 use Rattle.replay_crew.specs.Resolving.{turn_of, stored_turn, AreResolvedFrom}
 use Rattle.replay_crew.specs.Working.{level_of, AreLevels, put_each}
 use Rattle.replay_crew.proofs.Turning.{append_assoc, after, turns_fit}
@@ -53,14 +53,14 @@ hold_each s front (p ∷ level) valid fit_front fit apart aimed = (
 
 -- ---- the aims are some store's of the house
 
-abbrev IsSought : House → Turn → Type 0
+abbrev IsSought : House → SoughtItem → Type 0
 IsSought house t = (u : MailStore) × ((text : List ℕ) × ((u.house ≡ house) × (t.0 ≡ sought u text t.1.by t.1.deed)))
 
 all_sought : (s : MailStore) (items : List Item) → AllByRecursion (IsSought s.house) (turns s items)
 all_sought s [] = tt
 all_sought s (i ∷ items) = ((s, (unwrap_or (text_in i.deed) [], (refl, refl))), all_sought (step s i).0 items)
 
-placed_sought : (house : House) (n : ℕ) (ts : List Turn) → AllByRecursion (IsSought house) ts → AllByRecursion (λ (p : Placed). IsSought house p.1) (enumerate_from n ts)
+placed_sought : (house : House) (n : ℕ) (ts : List SoughtItem) → AllByRecursion (IsSought house) ts → AllByRecursion (λ (p : Placed). IsSought house p.1) (enumerate_from n ts)
 placed_sought house n [] all = tt
 placed_sought house n (t ∷ ts) all = (all.0, placed_sought house (n + 1) ts all.1)
 
@@ -98,7 +98,7 @@ aimed_stored s (p ∷ level) hold from =
 abbrev AreWithin : ℕ → List (List ℕ) → Type 0
 AreWithin n plan = AllByRecursion (λ (places : List ℕ). AllByRecursion (λ (place : ℕ). place < n) places) plan
 
-module _ (all : List Resolved) (ts : List Turn) (same : map turn_of all ≡ map stored_turn ts) where
+module _ (all : List Resolved) (ts : List SoughtItem) (same : map turn_of all ≡ map stored_turn ts) where
   abbrev whole : List Placed
   whole = enumerate_from 0 ts
 

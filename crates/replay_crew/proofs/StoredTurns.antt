@@ -19,7 +19,7 @@ use Rattle.touch_rules.specs.declared.touched.Touch.{Touch}
 use Rattle.touch_rules.specs.Table.{arrivals, table_row, touches_of}
 use Rattle.touch_rules.specs.Commuting.{are_independent}
 use Rattle.touch_rules.specs.Swapping.{brings_mail, resolved}
-use Rattle.replay_crew.specs.Orders.{Turn, Placed, run_turns, are_apart, all_apart, AllFit, at_places, touches_by_turn, levels_at, run_levels, told_by_levels}
+use Rattle.replay_crew.specs.Orders.{SoughtItem, Placed, run_turns, are_apart, all_apart, AllFit, at_places, touches_by_turn, levels_at, run_levels, told_by_levels}
 use Rattle.replay_crew.specs.Resolving.{turn_of, stored_turn}
 use Rattle.replay_crew.specs.Working.{answers_on}
 
@@ -90,7 +90,7 @@ answers_stored s (p ∷ ps) = ap₂ (λ (r : MailStore × Shown) (rest : List (�
 
 -- ---- levels
 
-enumerate_stored : (n : ℕ) (ts : List Turn) → enumerate_from n (map stored_turn ts) ≡ map stored_placed (enumerate_from n ts)
+enumerate_stored : (n : ℕ) (ts : List SoughtItem) → enumerate_from n (map stored_turn ts) ≡ map stored_placed (enumerate_from n ts)
 enumerate_stored n [] = refl
 enumerate_stored n (t ∷ ts) = ap (λ r. (n, stored_turn t) ∷ r) (enumerate_stored (n + 1) ts)
 
@@ -109,7 +109,7 @@ places_stored : (ps : List Placed) (places : List ℕ) → at_places (map stored
 places_stored ps [] = refl
 places_stored ps (n ∷ places) = ap₂ cons_option (find_stored n ps) (places_stored ps places) ∙ cons_stored (find (λ (p : Placed). p.0 == n) ps) (at_places ps places)
 
-module _ (all : List Resolved) (ts : List Turn) (same : map turn_of all ≡ map stored_turn ts) where
+module _ (all : List Resolved) (ts : List SoughtItem) (same : map turn_of all ≡ map stored_turn ts) where
   placed_same : enumerate_from 0 (map turn_of all) ≡ map stored_placed (enumerate_from 0 ts)
   placed_same = ap (enumerate_from 0) same ∙ enumerate_stored 0 ts
 
@@ -135,7 +135,7 @@ module _ (all : List Resolved) (ts : List Turn) (same : map turn_of all ≡ map 
   touches_turn [] = refl
   touches_turn (r ∷ all) = ap (λ rest. touches_of r ∷ rest) (touches_turn all)
 
-  touches_turns : (ts : List Turn) → touches_by_turn (map stored_turn ts) ≡ touches_by_turn ts
+  touches_turns : (ts : List SoughtItem) → touches_by_turn (map stored_turn ts) ≡ touches_by_turn ts
   touches_turns [] = refl
   touches_turns (t ∷ ts) = ap₂ (λ (a : List Touch) (b : List (List Touch)). a ∷ b) (touches_stored t.0 t.1) (touches_turns ts)
 

@@ -16,17 +16,17 @@ use Rattle.touch_rules.specs.Commuting.{commute, are_independent}
 use Rattle.touch_rules.specs.Swapping.{sets_conf, resolved, CanHave}
 
 -- an item with its aims
-abbrev pub Turn : Type 0
-Turn = Sought × Item
+abbrev pub SoughtItem : Type 0
+SoughtItem = Sought × Item
 
 -- the items of a timeline, each with the aims that it finds when its turn comes
-abbrev pub turns : MailStore → List Item → List Turn
+abbrev pub turns : MailStore → List Item → List SoughtItem
 turns s [] = []
 turns s (i ∷ is) = (sought_by s i, i) ∷ turns (step s i).0 is
 
 -- a turn beside its place in the timeline
 abbrev pub Placed : Type 0
-Placed = ℕ × Turn
+Placed = ℕ × SoughtItem
 
 -- the store after turns, performed one after the other
 abbrev pub run_turns : MailStore → List Placed → MailStore
@@ -72,8 +72,8 @@ by_levels [] all = []
 by_levels (places ∷ more) all = at_places all places ++ by_levels more all
 
 -- what each turn touches
-abbrev pub touches_by_turn : List Turn → List (List Touch)
-touches_by_turn ts = map (λ (t : Turn). touches_of (resolved t.0 t.1)) ts
+abbrev pub touches_by_turn : List SoughtItem → List (List Touch)
+touches_by_turn ts = map (λ (t : SoughtItem). touches_of (resolved t.0 t.1)) ts
 
 -- the aims of a turn are there in these mailboxes, and what its item looked for in vain is not
 abbrev pub AimsHold : Boxes → Placed → Type 0

@@ -4,14 +4,14 @@ use Rattle.verb_core.specs.declared.item.Item.{Item}
 use Rattle.verb_core.specs.declared.item.Resolved.{Resolved}
 use Rattle.verb_core.specs.Store.{MailStore}
 use Rattle.stored_items.specs.Stored.{stored}
-use Rattle.replay_crew.specs.Orders.{Turn, turns, AreWellFormed}
+use Rattle.replay_crew.specs.Orders.{SoughtItem, turns, AreWellFormed}
 
 -- what an item that was resolved is performed with
-abbrev pub turn_of : Resolved → Turn
+abbrev pub turn_of : Resolved → SoughtItem
 turn_of r = (record { aims = r.aims; missed = r.missed }, r.item)
 
 -- a turn whose item is kept without its text, but for a notice's
-abbrev pub stored_turn : Turn → Turn
+abbrev pub stored_turn : SoughtItem → SoughtItem
 stored_turn t = (t.0, stored t.1)
 
 -- resolved from a timeline's items: each with the aims that it finds when its turn comes, where the first comes on this store

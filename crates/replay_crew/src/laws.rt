@@ -12,9 +12,9 @@ ghost use Rattle.box_store.specs.Outline.{outline};
 ghost use Rattle.replay_crew.specs.Outline.{outline_after};
 ghost use Rattle.replay_crew.specs.Orders.{Placed, AreWellFormed, turns, run_turns, told, IsOrder, AllFit, AimsHold, AllAimed, are_apart, by_levels, touches_by_turn, levels_at, run_levels, told_by_levels};
 
-/// Items with the aims that each finds when its turn comes, performed in any order in which the items of each pair that is
-/// turned commute and are not both acts on aliases or filters, leave the store that the items leave in order, and each gets
-/// the answer that it gets there.
+/// Items with the aims that each finds when its turn comes leave the store that the items leave in order, and each gets the
+/// answer that it gets there. They are performed in any order in which the items of each pair that is turned commute and are not
+/// both acts on aliases or filters.
 pub fn orders_give_the_fold()
     ensures store { (s : MailStore) (items : List Item) (order : List Placed) → IsValid s → AreWellFormed s.house items →
         IsOrder order (enumerate_from 0 (turns s items)) → run_turns s order ≡ run s items }
@@ -27,9 +27,9 @@ pub fn plans_are_orders()
     ensures { (s : MailStore) (items : List Item) → IsOrder (by_levels (levels_of (touches_by_turn (turns s items))) (enumerate_from 0 (turns s items))) (enumerate_from 0 (turns s items)) }
 {}
 
-/// An item finds its mailboxes, and where it touches these its user's names, behind items of which each is independent of
-/// it as it finds them before them, gets the same answer, and where its aims hold behind them they hold before them. So what the items of a level do can be worked out on
-/// the store before them.
+/// An item stands behind items of which each is independent of it. It finds its mailboxes, and where it touches these its user's names, as it finds
+/// them before them, and gets the same answer. Where its aims hold behind them they hold before them. So what the items of a level do can be worked
+/// out on the store before them.
 pub fn levels_share_a_store()
     ensures mailboxes { (s : MailStore) (level : List Placed) (p : Placed) → IsValid s → AllFit s.house (p ∷ level) → IsTrue (list_all (λ q. are_apart q p) level) →
         SameAt (touches_box p.1.0 p.1.1) s.boxes (run_turns s level).boxes }
@@ -56,8 +56,8 @@ pub fn plans_run_by_levels()
         IsPermutation (told_by_levels s (levels_at (enumerate_from 0 (turns s items)) (levels_of (touches_by_turn (turns s items))))) (enumerate_from 0 (answers s items)) }
 {}
 
-/// An outline goes on with the store by the configuration and the names alone: behind each item that is performed on it only
-/// where it changes these, it is the outline of the store. And an item aims on an outline as on the store.
+/// An outline goes on with the store by the configuration and the names alone. An item is performed on it only where it changes
+/// these; behind each it is the outline of the store. And an item aims on an outline as on the store.
 pub fn outlines_follow_names()
     ensures goes_on { (s : MailStore) (i : Item) → outline (step s i).0 ≡ outline_after (outline s) i }
     ensures aims { (s : MailStore) (i : Item) → sought_by (outline s) i ≡ sought_by s i }

@@ -198,9 +198,9 @@ fn resolve_over<B: Bodies, L: Ledger>(
     Ok(all)
 }
 
-/// Each item with its aims as they are when its turn comes. It asks for the texts of deliveries alone, once each, and lets
-/// the items have them. It follows the configuration and the names alone: items are aimed at an outline of the store, in which
-/// no mail lies, and only what changes aliases, filters or names of mailboxes is performed there.
+/// Each item with its aims as they are when its turn comes. It asks for the texts of deliveries alone, once each, and lets the
+/// items have them. It follows the configuration and the names alone. Items are aimed at an outline of the store, in which no
+/// mail lies, and only what changes aliases, filters or names of mailboxes is performed there.
 pub fn resolve<B: Bodies>(
     alloc: Global,
     store: &Store,

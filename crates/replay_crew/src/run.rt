@@ -148,9 +148,9 @@ fn blank_shows(alloc: Global, count: usize) -> Result<Vec<Shown>, NoMemory>
     Ok(shows)
 }
 
-/// The store that the items of a plan lead to, and what each of them shows, in their order. They are performed level by level,
-/// each in one step, and where memory is wanting no item in more than one: the items of a level are worked out by at most 16 workers on the one store before it, and what they do is
-/// done in order by one thread.
+/// The store that the items of a plan lead to, and what each of them shows, in their order. They are performed level by level, each in one step, and
+/// where memory is wanting no item in more than one. The items of a level are worked out by at most 16 workers on the one store before it, and what
+/// they do is done in order by one thread.
 pub fn run_plan<R: Threads + Sync, G: Gate, L: Ledger>(
     rt: &R,
     alloc: Global,

@@ -23,8 +23,8 @@ work = codes "Work"
 abbrev first : List Key
 first = record { item = 3; index = 0 } ∷ []
 
--- mail for ann (3), an APPEND to Work (4), a SELECT of INBOX (5), a FETCH of its first message (6), mail for ann (7), a COPY
--- of the first message to Work (8), a STORE on it (9) and a LIST (10)
+-- Mail for ann (3), an APPEND to Work (4), a SELECT of INBOX (5), and a FETCH of its first message (6). Mail for ann (7), a COPY
+-- of the first message to Work (8), a STORE on it (9) and a LIST (10).
 abbrev morning : List (List Touch)
 morning =
     (Tail ann inbox 3 ∷ [])
@@ -48,8 +48,8 @@ pub told : text_of_levels (levels_of morning) (3 ∷ 4 ∷ 5 ∷ 6 ∷ 7 ∷ 8 �
 unfolding digits
 told = refl
 
--- a FETCH of ann's first message (4), a RENAME of hers (5), the same FETCH (6), a LIST of bob (7), a LIST of ann (8) and a RENAME
--- of hers (9): a RENAME parts the levels of its user, and of no other
+-- A FETCH of ann's first message (4), a RENAME of hers (5), the same FETCH (6), a LIST of bob (7), a LIST of ann (8) and a RENAME
+-- of hers (9). A RENAME parts the levels of its user, and of no other.
 abbrev renamed_twice : List (List Touch)
 renamed_twice =
     (Keys ann inbox first false ∷ [])

@@ -11,7 +11,6 @@ abbrev pub number_words : List ℕ → List ℕ → List ℕ
 number_words numbers [] = []
 number_words numbers (place ∷ places) = 32 ∷ decimal (slice_index numbers place) ++ number_words numbers places
 
--- the line of a level
 abbrev pub level_line : List ℕ → ℕ → List ℕ → List ℕ
 level_line numbers level places = codes "level " ++ decimal level ++ codes ":" ++ number_words numbers places ++ 10 ∷ []
 

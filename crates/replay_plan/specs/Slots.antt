@@ -116,8 +116,8 @@ taken_at earlier spot = list_any (λ e. list_any (λ a. is_at (Level e.1 ∷ [])
 
 -- ---- what two tables know of the earlier items
 
-abbrev pub Tells : List Placed → List (Slot × ℕ) → Type 0
-Tells earlier last = (spot : Spot) → level_at last spot ≡ last_at earlier spot
+abbrev pub TellsLevels : List Placed → List (Slot × ℕ) → Type 0
+TellsLevels earlier last = (spot : Spot) → level_at last spot ≡ last_at earlier spot
 
 abbrev pub Knows : List Placed → List (Slot × ℕ) → Type 0
 Knows earlier next = (spot : Spot) → nat_lt 0 (level_at next spot) ≡ taken_at earlier spot

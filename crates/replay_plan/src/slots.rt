@@ -26,7 +26,6 @@ pub(crate) enum Part {
     KeysOf(u32),
     /// One message.
     At(Key),
-    /// A level.
     Level(u32),
 }
 

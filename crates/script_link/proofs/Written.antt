@@ -20,7 +20,6 @@ is_equal b c is = grind (arith, nat_tests)
 is_no_tilde : (b : ℕ) → is_plain b ≡ true → b ≡ 126 → ⊥
 is_no_tilde b plain is = grind (arith, nat_tests)
 
--- two digits
 two_digits : (b : ℕ) (rest : List ℕ) → b < 256 → unspelled (126 ∷ 120 ∷ hex_digit (b / 16) ∷ hex_digit (b % 16) ∷ rest) ≡ option_map (λ bytes. b ∷ bytes) (unspelled rest)
 two_digits b rest below =
     let high : b / 16 < 16 = omega arith in

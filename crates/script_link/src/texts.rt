@@ -153,7 +153,6 @@ fn hex_digit(number: u8) -> u8
     }
 }
 
-/// Writes a byte.
 fn write_byte(out: &mut Text, byte: u8) -> Result<(), NoMemory>
     ensures { OnOk result (out.new ≡ out.old ++ spelled byte) }
 {
@@ -170,7 +169,6 @@ fn write_byte(out: &mut Text, byte: u8) -> Result<(), NoMemory>
     }
 }
 
-/// Writes bytes.
 pub fn write_bytes(out: &mut Text, bytes: &[u8]) -> Result<(), NoMemory>
     ensures { OnOk result (out.new ≡ out.old ++ flat_map spelled bytes.now) }
 {

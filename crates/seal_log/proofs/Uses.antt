@@ -10,8 +10,8 @@ settled_holds disk gate payloads s = record { honest = s.honest; front = λ c no
 
 -- nothing was read
 pub reads_none : (disk : DiskTold) → (disk.honest → IsHonest disk) → ReadsAlone disk disk
-reads_none disk truth = record { reads = moments.reads_none disk truth; fed = refl }
+reads_none disk truth = record { reads = moments.reads_none disk truth; finds_memory = refl }
 
 -- one stretch of reads after another
 pub reads_joined : (old mid new : DiskTold) → ReadsAlone old mid → ReadsAlone mid new → ReadsAlone old new
-reads_joined old mid new first second = record { reads = moments.reads_joined old mid new first.reads second.reads; fed = second.fed ∙ first.fed }
+reads_joined old mid new first second = record { reads = moments.reads_joined old mid new first.reads second.reads; finds_memory = second.finds_memory ∙ first.finds_memory }

@@ -2,7 +2,7 @@
 use Rattle.std.specs.Prelude.{◌≡◌, ◌⊎◌, ℕ, Result, OnOk, IsErrOf}
 use Rattle.undo_outside.specs.declared.fault.Fault.{Fault}
 use Rattle.undo_outside.specs.declared.fault.Fault.TheVariants.{Failed, NoMemory}
-use Rattle.undo_outside.specs.Disk.{DiskTold, ReadFailed, WriteFailed, WriteStarved}
+use Rattle.undo_outside.specs.Disk.{DiskTold, ReadFailed, WriteFailed, WriteOutOfMemory}
 use Rattle.seal_log.specs.declared.fault.SealFault.{SealFault}
 use Rattle.seal_log.specs.declared.fault.SealFault.TheVariants.{Disk as seal_disk, NoMemory as seal_no_memory, Closed}
 use Rattle.seal_log.specs.declared.fault.ReadFault.{ReadFault}
@@ -25,25 +25,25 @@ pub record SealCause {T : Type 0} (old new : DiskTold) (result : Result T SealFa
   pub reliable : new.is_reliable ≡ old.is_reliable
 
 -- each write found memory
-abbrev pub Fed : DiskTold → DiskTold → Type 0
-Fed old new = new.starved ≡ old.starved
+abbrev pub FindsMemory : DiskTold → DiskTold → Type 0
+FindsMemory old new = new.out_of_memory ≡ old.out_of_memory
 
 -- no memory was found: nothing was done, or the last write that was made found none, and no other
-abbrev pub Starves : {D : Type 0} → (D → DiskTold) → D → D → Type 0
-Starves told old new = (new ≡ old) ⊎ WriteStarved (told old) (told new)
+abbrev pub RunsOutOfMemory : {D : Type 0} → (D → DiskTold) → D → D → Type 0
+RunsOutOfMemory told old new = (new ≡ old) ⊎ WriteOutOfMemory (told old) (told new)
 
 -- writes find memory, but for the last one where the call says that it found none
 pub record PutWants {D T : Type 0} (told : D → DiskTold) (old new : D) (result : Result T Fault) : Type 0 where
-  pub ok : OnOk result (Fed (told old) (told new))
-  pub failed : IsErrOf result Failed → Fed (told old) (told new)
-  pub no_memory : IsErrOf result NoMemory → Starves told old new
+  pub ok : OnOk result (FindsMemory (told old) (told new))
+  pub failed : IsErrOf result Failed → FindsMemory (told old) (told new)
+  pub no_memory : IsErrOf result NoMemory → RunsOutOfMemory told old new
 
 -- the same of a seal
 pub record SealWants {D T : Type 0} (told : D → DiskTold) (old new : D) (result : Result T SealFault) : Type 0 where
-  pub ok : OnOk result (Fed (told old) (told new))
-  pub disk : IsErrOf result seal_disk → Fed (told old) (told new)
-  pub closed : IsErrOf result Closed → Fed (told old) (told new)
-  pub no_memory : IsErrOf result seal_no_memory → Starves told old new
+  pub ok : OnOk result (FindsMemory (told old) (told new))
+  pub disk : IsErrOf result seal_disk → FindsMemory (told old) (told new)
+  pub closed : IsErrOf result Closed → FindsMemory (told old) (told new)
+  pub no_memory : IsErrOf result seal_no_memory → RunsOutOfMemory told old new
 
 -- a read of a payload answers `Disk` exactly where a read failed
 pub record ReadAtCause {T : Type 0} (old new : DiskTold) (result : Result T ReadFault) : Type 0 where

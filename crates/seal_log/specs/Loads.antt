@@ -12,8 +12,8 @@ use Rattle.seal_log.specs.Loading.{BeginsCut, IsDamagedAt, IsNotFormatted, place
 use Rattle.seal_log.specs.Log.{end_gate, is_cut, last_gate}
 use Rattle.seal_log.specs.Settled.{Holds, IsSettled}
 
--- Behind the payloads an open gate stands whose frame and next gate are not within the image; or a gate that is not open,
--- behind one payload at least, and the disk is settled there.
+-- Behind the payloads an open gate stands whose frame and next gate are not within the image. Or a gate stands there that is not
+-- open, behind one payload at least, and the disk is settled there.
 abbrev pub Ends : Bool → DiskTold → ℕ → List (List ℕ) → List ℕ → Type 0
 Ends true disk gate payloads rest = BeginsCut rest
 Ends false disk gate payloads rest = BeginsClosed rest × (0 < length payloads) × IsSettled disk gate payloads

@@ -2,7 +2,7 @@
 use Rattle.std.specs.Prelude.{◌≡◌, ◌⊎◌, ◌≤◌, ℕ, List, [], ◌∷◌, ◌++◌, length}
 use Rattle.undo_outside.specs.Disk.{DiskTold}
 use Rattle.undo_outside.specs.Moments.{OnlyReads}
-use Rattle.seal_log.specs.Causes.{Fed}
+use Rattle.seal_log.specs.Causes.{FindsMemory}
 use Rattle.seal_log.specs.Journal.{frame, sealed, StandsFor}
 use Rattle.seal_log.specs.Loading.{IsNotFormatted}
 
@@ -17,8 +17,8 @@ pub record Holds (disk : DiskTold) (payloads : List (List ℕ)) : Type 0 where
   pub honest : disk.honest
   pub front : (c : List ℕ) → disk.images c → (rest : List ℕ) × (c ≡ sealed payloads ++ rest)
 
--- From old to new there is a moment at which the frame of a payload stood behind a gate that was not open; and whatever a crash
--- may have left since, there the frame stands behind the first byte, with a gate behind it.
+-- From old to new there is a moment at which the frame of a payload stood behind a gate that was not open. Whatever a crash may
+-- have left since, there the frame stands behind the first byte, with a gate behind it.
 pub record IsFrameFirst (payload : List ℕ) (old new : DiskTold) : Type 0 where
   pub moment : ℕ
   pub later : old.moment ≤ moment
@@ -32,4 +32,4 @@ LeavesNoJournal old new = (c : List ℕ) → new.images c → old.images c ⊎ I
 -- From old to new the disk was only read. No write was made, so none found no memory.
 pub record ReadsAlone (old new : DiskTold) : Type 0 where
   pub reads : OnlyReads old new
-  pub fed : Fed old new
+  pub finds_memory : FindsMemory old new

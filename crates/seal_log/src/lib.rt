@@ -1,8 +1,9 @@
 //! A sealed journal: frames behind gates, each payload on the disk before its gate is opened.
 //!
-//! `frame` has the bytes, `place` where a payload lies, `fault` why a call was refused, `durable` a write with its sync, `log` formats, seals and reads, `loading` finds what is there,
-//! as `seen` has it; `reading` reads a payload; `laws` says what the definitions imply. What carries the crate: `Log::seal`, `any_moment` (a crash at any moment
-//! leaves the payloads from before the call, with the new one or without) and `sealed` (at `Ok` each image has it).
+//! `frame` has the bytes, `place` where a payload lies, `fault` why a call was refused, `durable` a write with its sync. `log` formats, seals and
+//! reads, and `loading` finds what is there, as `seen` has it. `reading` reads a payload; `laws` says what the definitions imply. What carries the
+//! crate: `Log::seal`, `any_moment` (a crash at any moment leaves the payloads from before the call, with the new one or without) and `sealed` (at
+//! `Ok` each image has it).
 #![tactic(auto)]
 
 mod durable;

@@ -16,7 +16,6 @@ module _ (depth : ℕ) (closed : Bool) (keys : List Asked) (tokens : List Token)
   no_key zero some is = absurd (omega (arith, some))
   no_key (suc most) some is = rw is refl
 
-  -- it is the last
   pub last_key : (most : ℕ) (key : Asked) (behind rest : List Token) → 0 < most → key_in depth tokens ≡ Some (key, behind) → at_end closed behind ≡ Some rest
       → onto keys (keys_in (key_in depth) closed most tokens) ≡ Some (keys ++ key ∷ [], rest)
   last_key zero key behind rest some is ends = absurd (omega (arith, some))

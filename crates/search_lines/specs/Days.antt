@@ -4,7 +4,7 @@ use Rattle.jiff_core.specs.Calendar.{days_from_civil}
 use Rattle.civil_dates.specs.declared.days.Day.{Day}
 use Rattle.civil_dates.specs.Months.{month_of}
 use Rattle.undo_base.specs.Digits.{number_of}
-use Rattle.imap_stream.specs.Marks.{all_digits}
+use Rattle.imap_stream.specs.LiteralMarks.{all_digits}
 use Rattle.imap_tokens.specs.Dates.{day_of, is_real}
 use Rattle.imap_tokens.specs.Sets.{cut_at}
 

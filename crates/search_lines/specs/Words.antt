@@ -75,7 +75,6 @@ other_words =
 abbrev pub other_word : List ℕ → Option KeyWord
 other_word text = row_of other_words text
 
--- the key of a word
 abbrev pub key_word : List ℕ → Option KeyWord
 key_word text =
     option_or (option_map word.Is (sign_word text)) (option_or (option_map word.IsNot (unsign_word text))

@@ -5,7 +5,8 @@ use Rattle.search_verb.specs.declared.keys.SearchKey.{SearchKey}
 use Rattle.search_verb.specs.declared.keys.SearchKey.TheOpen.{SearchKey-F}
 use Rattle.search_verb.specs.declared.keys.SearchKey.TheFolds.{fold-SearchKey}
 
--- what is asked of a message: a flag, a number of a set, a day (from 1970), a size, a string in a field, in what follows the header or in all, and what is made of these
+-- What is asked of a message: a flag, a number of a set, a day (from 1970), a size. Or a string in a field, in what follows the header or in all; and
+-- what is made of these.
 pub data Asked : Type 0 where
   Every : Asked
   Never : Asked

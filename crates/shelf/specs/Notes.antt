@@ -4,8 +4,8 @@ use Rattle.seal_log.specs.declared.place.Place.{Place}
 use Rattle.verb_core.specs.declared.mailbox.Body.{Body}
 use Rattle.shelf.specs.declared.note.Note.{Note}
 
--- a shelf: each body that was noted with its last note, and room for so many notes more; the snapshots that are kept, each
--- by its position with where it lies, and room for so many more of them
+-- A shelf: each body that was noted with its last note, and room for so many notes more. And the snapshots that are kept, each by
+-- its position with where it lies, and room for so many more of them.
 pub record Noted : Type 0 where
   pub notes : List (Body × Note)
   pub room : ℕ

@@ -1,4 +1,4 @@
--- Commands of a mail client (RFC 5321, 4.1.1).
+-- Commands of an SMTP client (RFC 5321, 4.1.1).
 use Rattle.std.specs.Prelude.{◌≡◌, ℕ, Bool, ◌==◌, ◌&&◌, ◌||◌, List, [], ◌∷◌, length, nat_lt, codes, Option, None, Some, Result, Ok, Err, if◌then◌else◌}
 use Rattle.std.specs.List.{list_all, before_first, after_first}
 use Rattle.std.specs.Result.{IsOk}

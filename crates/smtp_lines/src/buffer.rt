@@ -14,8 +14,8 @@ const CR: u8 = 13;
 
 const LF: u8 = 10;
 
-/// The bytes of a stream that were not given as lines yet. They stand behind those that were given, which are never more than half of all,
-/// and at the first places of them it was seen that no CRLF begins there, so that no byte is looked at twice. Of a line that is too long,
+/// The bytes of a stream that were not given as lines yet. They stand behind those that were given, which are never more than half of all.
+/// At the first places of them it was seen that no CRLF begins there, so that no byte is looked at twice. Of a line that is too long,
 /// `over`, all behind its first `MOST_LINE` bytes was left out, up to those that came after that. Contracts see the stream, and beside it
 /// how many bytes are in memory: a buffer has no other field that could keep more.
 #[derive(Debug, Drop)]

@@ -1,4 +1,4 @@
-//! The commands of a mail client (RFC 5321, section 4.1.1).
+//! The commands of an SMTP client (RFC 5321, section 4.1.1).
 ghost use Rattle.std.specs.Prelude.{◌≡◌, true, IfOk, Ok, Err};
 ghost use Rattle.std.specs.List.{list_all};
 ghost use Rattle.std.specs.Option.{option_copied};

@@ -75,34 +75,34 @@ taken_are = along IsTaken taken_first taken_more
 
 -- between two states, with so many cycles and withdrawals and no snapshot, as many items entered as numbers were given, but for those
 -- of the cycles and the withdrawals
-record Counts (old new : Kept) (rewinds : ℕ) : Type 0 where
+record CountsNumbers (old new : Kept) (rewinds : ℕ) : Type 0 where
   first : new.first ≡ old.first
   numbers : old.next + rewinds + new.marks.since ≡ new.next + old.marks.since
 
-counts_item : (kept : Kept) (item : Item) → Counts kept (performed kept item) 0
+counts_item : (kept : Kept) (item : Item) → CountsNumbers kept (performed kept item) 0
 counts_item kept item = record { first = refl; numbers = omega arith }
 
 given : (next since acts notices one : ℕ) → one ≡ 1 → next + one + (since + (acts + notices)) ≡ next + 1 + acts + notices + since
 given next since acts notices one e = omega arith
 
-counts_cycle : (kept : Kept) (at : ℕ) (ask : CycleAsk) (place : ℕ) (one : ℕ) → one ≡ 1 → Counts kept (after_cycle kept ask (cycled_at kept at ask place)) one
+counts_cycle : (kept : Kept) (at : ℕ) (ask : CycleAsk) (place : ℕ) (one : ℕ) → one ≡ 1 → CountsNumbers kept (after_cycle kept ask (cycled_at kept at ask place)) one
 counts_cycle kept at ask place one e = record { first = refl; numbers = given kept.next kept.marks.since (length ask.inserts) (length (told_at kept at ask place)) one e }
 
-counts_withdrawal : (kept : Kept) (at : ℕ) (key : List ℕ) (last : UndoneBehind) (one : ℕ) → one ≡ 1 → Counts kept (after_withdrawal kept key (withdrawn_at kept at last)) one
+counts_withdrawal : (kept : Kept) (at : ℕ) (key : List ℕ) (last : UndoneBehind) (one : ℕ) → one ≡ 1 → CountsNumbers kept (after_withdrawal kept key (withdrawn_at kept at last)) one
 counts_withdrawal kept at key last one e = record { first = refl; numbers = given kept.next kept.marks.since 0 (length (told_in kept at (unedit_of kept last))) one e }
 
-counts_one : (kept next : Kept) (r : JournalRecord) → after_record kept r ≡ Some next → is_snapshot r ≡ false → Counts kept next (rewinds_in (r ∷ []))
-counts_one kept next (Verb item) e plain = subst (λ (k : Kept). Counts kept k 0) (performed_is kept next (Verb item) item e) (counts_item kept item)
+counts_one : (kept next : Kept) (r : JournalRecord) → after_record kept r ≡ Some next → is_snapshot r ≡ false → CountsNumbers kept next (rewinds_in (r ∷ []))
+counts_one kept next (Verb item) e plain = subst (λ (k : Kept). CountsNumbers kept k 0) (performed_is kept next (Verb item) item e) (counts_item kept item)
 counts_one kept next (Operator number at act) e plain =
-    subst (λ (k : Kept). Counts kept k 0) (performed_is kept next (Operator number at act) (act_item number at act) e) (counts_item kept (act_item number at act))
+    subst (λ (k : Kept). CountsNumbers kept k 0) (performed_is kept next (Operator number at act) (act_item number at act) e) (counts_item kept (act_item number at act))
 counts_one kept next (Cycle number at ask) e plain =
     let cycled = cycled_is kept next at ask number e in
-    subst (λ (k : Kept). Counts kept k (rewinds_in (Cycle number at ask ∷ []))) cycled.next_is (counts_cycle kept at ask cycled.place (rewinds_in (Cycle number at ask ∷ [])) refl)
+    subst (λ (k : Kept). CountsNumbers kept k (rewinds_in (Cycle number at ask ∷ []))) cycled.next_is (counts_cycle kept at ask cycled.place (rewinds_in (Cycle number at ask ∷ [])) refl)
 counts_one kept next (Snapshot items conf rows) e plain = absurd (cc plain)
-counts_one kept next (Upgrade at) e plain = subst (λ (k : Kept). Counts kept k 0) (upgrade_is kept next at e) (record { first = refl; numbers = omega arith })
+counts_one kept next (Upgrade at) e plain = subst (λ (k : Kept). CountsNumbers kept k 0) (upgrade_is kept next at e) (record { first = refl; numbers = omega arith })
 counts_one kept next (Withdraw number at key of) e plain =
     let taken = withdrawn_is kept next at key of number e in
-    subst (λ (k : Kept). Counts kept k (rewinds_in (Withdraw number at key of ∷ []))) taken.next_is
+    subst (λ (k : Kept). CountsNumbers kept k (rewinds_in (Withdraw number at key of ∷ []))) taken.next_is
     (counts_withdrawal kept at key taken.last (rewinds_in (Withdraw number at key of ∷ [])) refl)
 counts_one kept next _ e plain = absurd (cc e)
 
@@ -151,18 +151,18 @@ no_first r rs none = by (is_snapshot r) none
     by true e = absurd (omega (arith, e))
     by false e = (refl, e)
 
-joined : (old mid new : Kept) (a b all : ℕ) → Counts old mid a → Counts mid new b → all ≡ a + b → Counts old new all
+joined : (old mid new : Kept) (a b all : ℕ) → CountsNumbers old mid a → CountsNumbers mid new b → all ≡ a + b → CountsNumbers old new all
 joined old mid new a b all first second sum = record {
   first = second.first ∙ first.first;
   numbers = (let one = first.numbers in let two = second.numbers in omega arith);
 }
 
-counts : (rs : List JournalRecord) (old new : Kept) → after_records old rs ≡ Some new → snapshots_in rs ≡ 0 → Counts old new (rewinds_in rs)
-counts [] old new e none = let same : old ≡ new = cc e in subst (λ (k : Kept). Counts old k 0) same (record { first = refl; numbers = omega arith })
+counts : (rs : List JournalRecord) (old new : Kept) → after_records old rs ≡ Some new → snapshots_in rs ≡ 0 → CountsNumbers old new (rewinds_in rs)
+counts [] old new e none = let same : old ≡ new = cc e in subst (λ (k : Kept). CountsNumbers old k 0) same (record { first = refl; numbers = omega arith })
 counts (r ∷ rs) old new e none = by (after_record old r) refl e (λ next f. counts rs next new f (no_first r rs none).1)
   where
     by : (o : Option Kept) → after_record old r ≡ o → option_and_then (λ (k : Kept). after_records k rs) o ≡ Some new
-        → ((next : Kept) → after_records next rs ≡ Some new → Counts next new (rewinds_in rs)) → Counts old new (rewinds_in (r ∷ rs))
+        → ((next : Kept) → after_records next rs ≡ Some new → CountsNumbers next new (rewinds_in rs)) → CountsNumbers old new (rewinds_in (r ∷ rs))
     by None f e more = absurd (cc e)
     by (Some next) f e more =
         joined old next new (rewinds_in (r ∷ [])) (rewinds_in rs) (rewinds_in (r ∷ rs)) (counts_one old next r f (no_first r rs none).0) (more next e) (one_first is_rewind r rs)

@@ -18,9 +18,9 @@ pub record StandsOn (origin : Origin) (timeline : List Item) : Type 0 where
   pub base : IsBase timeline origin.base
   pub new : AllByRecursion (λ (i : Item). IsNew origin i.number) timeline
 
--- What a store in use begins with carries items, and those that come with numbers from the next one on: the base is of the house; the
--- items can stand on it, that is, it is valid, with the mailboxes that each user has, with each message once; their numbers are new,
--- and so is each to come; numbers are drawn from no higher one than the next; and the text of each body in the base comes with it.
+-- What a store in use begins with carries items, and those that come with numbers from the next one on. The base is of the house, and
+-- the items can stand on it: it is valid, with the mailboxes that each user has, with each message once. Their numbers are new, and
+-- so is each to come; numbers are drawn from no higher one than the next. And the text of each body in the base comes with it.
 pub record Carries (origin : Origin) (timeline : List Item) (next : ℕ) : Type 0 where
   pub house_is : origin.base.house ≡ origin.house
   pub stands : IsBase timeline origin.base

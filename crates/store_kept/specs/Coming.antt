@@ -7,7 +7,7 @@ use Rattle.withdraw.specs.Coming.{CanComeBack, TextsComeBack}
 use Rattle.store_kept.specs.Bases.{IsNew}
 use Rattle.store_kept.specs.Kept.{Kept, Origin, origin_of}
 
--- It can come back among these items in force, its cycle has a number that was drawn, and the number of each of its items is new to
+-- It can come back among these items in force, and its cycle has a number that was drawn. The number of each of its items is new to
 -- what the store in use begins with.
 pub record Comes (origin : Origin) (timeline : List Item) (next : ℕ) (last : UndoneBehind) : Type 0 where
   pub cycle : last.cycle < next

@@ -79,8 +79,8 @@ users_told report = map (λ b. b.user) report.broken ++ map (λ r. r.0.user) rep
 abbrev pub are_reports : House → Reports → Bool
 are_reports house reports = is_by_key reports && list_all (λ (r : List ℕ × Report). list_all (is_known house) (users_told r.1)) reports
 
--- whether a Base can stand, but for what is wanted of the texts and the items behind it: its next number is one that a journal
--- can have, its mailboxes make a store, no user has a key twice in them, and what it names is below its next number
+-- Whether a Base can stand, but for what is wanted of the texts and the items behind it. Its next number is one that a journal
+-- can have, and its mailboxes make a store. No user has a key twice in them, and what it names is below its next number.
 abbrev pub base_stands : House → Based → Bool
 base_stands house b =
     nat_le b.next 4194304 && makes_store house b.conf b.rows && once_each b.rows && list_all (is_entry_below b.next) (entries_of b.rows)
@@ -102,8 +102,8 @@ text_stands b body = is_empty b.items && names_body b.rows body && not (has_text
 abbrev pub has_number : List Item → ℕ → Bool
 has_number items n = list_any (λ (i : Item). i.number == n) items
 
--- whether an item can be kept behind a base: its number and its rev are below the base's next, its number is the item of no key of
--- the base and the origin of no body of it, and no earlier item has it
+-- Whether an item can be kept behind a base: its number and its rev are below the base's next. Its number is the item of no key of
+-- the base and the origin of no body of it, and no earlier item has it.
 abbrev pub can_be_kept : Based → Item → Bool
 can_be_kept b i = nat_lt i.number b.next && nat_lt i.rev b.next && not (names_number b.rows i.number) && not (has_number b.items i.number)
 
@@ -146,8 +146,8 @@ has_texts b = all_bodies (has_text_of b.texts) b.rows
 abbrev pub stamps_name : List (BoxId × ℕ) → MailStore → Bool
 stamps_name stamps s = is_eq (slice_cmp box_cmp (map (λ (r : BoxId × ℕ). r.0) stamps) (map (λ (r : BoxId × Mailbox). r.0) s.boxes))
 
--- whether a base can stand with the texts and the items that stand behind it: each body has its text, and the stamps name the
--- mailboxes of the store that the items leave
+-- Whether a base can stand with the texts and the items that stand behind it. Each body has its text, and the stamps name the
+-- mailboxes of the store that the items leave.
 abbrev pub is_whole : House → Based → Bool
 is_whole house b = has_texts b && stamps_name b.stamps (store_based house b)
 

@@ -41,8 +41,8 @@ with_report key report reports = rows.put key_cmp key report reports
 
 -- ---- the snapshots
 
--- what is known of the snapshots in the journal: how many items entered since the last (inserted acts and notices counted), how
--- many snapshots there are, and after how many items each of those was taken from which a cycle can begin, rising
+-- What is known of the snapshots in the journal: how many items entered since the last (inserted acts and notices counted), and
+-- how many snapshots there are. And after how many items each of those was taken from which a cycle can begin, rising.
 pub record Marks : Type 0 where
   pub since : ℕ
   pub taken : ℕ
@@ -95,10 +95,10 @@ with_base_text body text texts = rows.put body_cmp body text texts
 
 -- ---- what is kept
 
--- the house, the configuration at first, the base, the store before the first item, the texts that come with it, the number from
--- which this journal draws, the store that is there, the items in force in order, the stamp of each mailbox, the next number, the
--- reports of cycles, the snapshots, whether names may have superiors, and what the last of all cycles and withdrawals left to be
--- withdrawn, where it is a cycle
+-- The house, the configuration at first, the base, the store before the first item, the texts that come with it, and the number
+-- from which this journal draws. The store that is there, the items in force in order, the stamp of each mailbox, and the next
+-- number. The reports of cycles, the snapshots, and whether names may have superiors. And what the last of all cycles and
+-- withdrawals left to be withdrawn, where it is a cycle.
 pub record Kept : Type 0 where
   pub house : House
   pub opening : Conf
@@ -114,8 +114,8 @@ pub record Kept : Type 0 where
   pub deep : Bool
   pub undone : Option UndoneBehind
 
--- what a store in use begins with: its house, the configuration at first, the base, the store before the first item, the texts that
--- come with it, and the number from which this journal draws
+-- What a store in use begins with: its house, the configuration at first, the base, the store before the first item, and the texts
+-- that come with it. And the number from which this journal draws.
 pub record Origin : Type 0 where
   pub house : House
   pub opening : Conf
@@ -149,7 +149,6 @@ kept_from origin store timeline stamps next reports marks deep undone = record {
 abbrev pub origin_of : Kept → Origin
 origin_of kept = record { house = kept.house; opening = kept.opening; base = kept.base; texts = kept.texts; first = kept.first }
 
--- the store
 abbrev pub store_of : Kept → MailStore
 store_of kept = kept.store
 

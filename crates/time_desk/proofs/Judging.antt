@@ -158,7 +158,6 @@ next_left all places i d first now kept gate records below left = by left.rest l
             let clash : None ≡ Some kept = sym (ap (option_and_then (λ (k : Kept). after_records k rs)) none) ∙ leaves in
             absurd (cc clash)
 
--- none is left
 pub none_left : (all : List (List ℕ)) (places : List Place) (i : ℕ) (first now kept : Kept) (gate : ℕ) (records : List JournalRecord) → length places ≤ i → Left all places i first now kept gate records
     → None ≡ first_false first gate records
 none_left all places i first now kept gate records past left = by left.rest (sym (drop_end places i past) ∙ left.places_are) left.same

@@ -645,7 +645,7 @@ module _ (old new : List (Body × Note)) (fresh : Fresh) (s : Kept) (at : ℕ) (
   repaired_found P moves has stale =
       found_all s.first P old fresh s.timeline ask s.next at place (replaced_lies P moves) (zipped (HasNote s.first P old) (IsStale P old s.next) s.timeline has stale) (given_found P moves)
 
-  -- Where each text was noted before a gate, and the cycle's record lies before it, each text is noted so after the cycle,
+  -- Each text was noted before a gate, and the cycle's record lies before it. Then each text is noted so after the cycle,
   -- whatever was read, also of those that can come back then, and of the base.
   module _ (heard : List Item) (now : List Shown) (apart' : NumbersApart (timeline_by s at (repair_of s at ask place) heard now)) where
     abbrev Then : List Item

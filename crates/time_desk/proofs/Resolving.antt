@@ -14,7 +14,7 @@ use Rattle.verb_core.specs.Step.{run, step}
 use Rattle.verb_core.specs.Store.{MailStore}
 use Rattle.touch_rules.specs.declared.touched.Touch.{Touch}
 use Rattle.touch_rules.specs.Table.{arrivals, table_row, touches_of}
-use Rattle.replay_crew.specs.Orders.{Turn, turns}
+use Rattle.replay_crew.specs.Orders.{SoughtItem, turns}
 use Rattle.replay_crew.specs.Resolving.{stored_turn, turn_of}
 use Rattle.verb_core.proofs.Joins.{run_joined}
 use Rattle.repair_desk.specs.Repairs.{numbers_of}
@@ -83,5 +83,5 @@ all_touched s [] [] are = refl
 all_touched s [] (r ∷ all) are = cc
 all_touched s (i ∷ items) [] are = cc
 all_touched s (i ∷ items) (r ∷ all) are =
-    ap₂ (λ (t : Turn) (rest : List (List Touch)). touches_of (record { item = t.1; aims = t.0.aims; missed = t.0.missed }) ∷ rest) (ap (head_of (turn_of r)) are) (all_touched (step s i).0 items all (ap (drop 1) are))
+    ap₂ (λ (t : SoughtItem) (rest : List (List Touch)). touches_of (record { item = t.1; aims = t.0.aims; missed = t.0.missed }) ∷ rest) (ap (head_of (turn_of r)) are) (all_touched (step s i).0 items all (ap (drop 1) are))
     ∙ ap (λ (here : List Touch). here ∷ map touches_of (resolved (step s i).0 items)) (stored_row i (sought_by s i))

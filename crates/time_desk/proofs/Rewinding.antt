@@ -53,7 +53,7 @@ use Rattle.verb_core.specs.declared.bodies.BodiesFault.{BodiesFault}
 use Rattle.verb_core.specs.declared.bodies.BodiesFault.TheVariants as bodies_faults
 use Rattle.time_desk.specs.declared.fault.CycleFault.{CycleFault}
 use Rattle.time_desk.specs.declared.fault.CycleFault.TheVariants as cycle_faults
-use Rattle.time_desk.specs.Cycling.{CanBeUndone, CanRework, Cycles, CyclesAs, CyclesBy, CyclesNone, IsCycleOutcomeOf, IsCycled, IsFit, IsTold, Redoes, RedoesCause, RedoesCycle, RenotesAs, Reworks, StarvesBy, Tries, TriesNone, after_rewound, asked_then, most_begun, most_reworked, most_tried}
+use Rattle.time_desk.specs.Cycling.{CanBeUndone, CanRework, Cycles, CyclesAs, CyclesBy, CyclesNone, IsCycleOutcomeOf, IsCycled, IsFit, IsTold, Redoes, RedoesCause, RedoesCycle, RenotesAs, Reworks, RunsOutOfMemoryBy, Tries, TriesNone, after_rewound, asked_then, most_begun, most_reworked, most_tried}
 use Rattle.time_desk.specs.Planning.{BodiesCause}
 use Rattle.mail_desk.specs.Held.{Held}
 use Rattle.mail_desk.specs.Timeline.{SizesOf}
@@ -67,7 +67,7 @@ use Rattle.desk_journal.specs.Records.{after_cycle_record, after_due, after_reco
 use Rattle.desk_journal.specs.Sealing.{IsRecordTo, Seals, SealsPayloads}
 use Rattle.desk_journal.specs.Stored.{HoldsTexts, IsFresh, MarksLie, TextsNoted, TextsStored, store_at}
 use Rattle.mail_cycle.specs.declared.beginning.Beginning.{Beginning}
-use Rattle.time_desk.specs.Serving.{CanServe, IsNewest, Serves, unmarked}
+use Rattle.time_desk.specs.Serving.{CanServe, IsNewest, CanBegin, unmarked}
 use Rattle.desk_journal.specs.Submitting.{SealsBytes, SealsNone, SealsNothing}
 use Rattle.desk_journal.specs.Telling.{HoldsHeld, IsOnlyRead, IsPastRead, LeadsOn, reading_told}
 use Rattle.desk_journal.proofs.Telling.{held_on}
@@ -82,7 +82,8 @@ use Rattle.desk_journal.proofs.Truth.{cycle_true}
 
 -- ---- what a cycle leaves in memory
 
--- where each body of a store has a text in a front, or with a base, each body of what items lead to has one in the front and these items, or with the base
+-- Each body of a store has a text in a front, or with a base. Then each body of what items lead to has one in the front and these items, or with the
+-- base.
 abbrev pub BodiesOn : Type 0
 BodiesOn = (texts : BaseTexts) (base : MailStore) (front t : List Item) → IsValid base → AllByRecursion (IsWellFormed base.house) t → IsTrue (all_bodies (has_text_with texts front) base.boxes) → IsTrue (all_bodies (has_text_with texts (front ++ t)) (run base t).boxes)
 
@@ -145,7 +146,7 @@ cycled_redoes kept at ask told made is = (cycled_at kept at ask is.place, is.due
 
 -- ---- a repair in memory, from a beginning that can serve
 
-module _ {D : Type 0} (told : D → DiskTold) (held : Held) (t : Task) (task : IsTask t) (old : PastTold D) (can : CanRework told held old.end t) (first : Beginning) (serves : Serves held.kept t.repair.place first) where
+module _ {D : Type 0} (told : D → DiskTold) (held : Held) (t : Task) (task : IsTask t) (old : PastTold D) (can : CanRework told held old.end t) (first : Beginning) (serves : CanBegin held.kept t.repair.place first) where
   abbrev Holds : Type 0
   Holds = HoldsHeld (told old.disk) held
 
@@ -544,10 +545,10 @@ module _ {D : Type 0} (told : D → DiskTold) where
   cycled_again at ask old report had = subst (CyclesBy told at ask old old report) (sym (due_again old.kept at ask report had)) (refl, refl)
 
   -- no memory for the copy of a report of before
-  pub starved_again : (at : ℕ) (ask : CycleAsk) (old : Lasting D) → IsSome (report_of old.kept.reports ask.key) → CyclesNone told at ask old old cycle_faults.NoMemory
-  starved_again at ask old had = by_report (report_of old.kept.reports ask.key) had
+  pub out_of_memory_again : (at : ℕ) (ask : CycleAsk) (old : Lasting D) → IsSome (report_of old.kept.reports ask.key) → CyclesNone told at ask old old cycle_faults.NoMemory
+  out_of_memory_again at ask old had = by_report (report_of old.kept.reports ask.key) had
     where
-      by_report : (found : Option Report) → IsSome found → StarvesBy told old old (due_by found (due_anew old.kept at ask))
+      by_report : (found : Option Report) → IsSome found → RunsOutOfMemoryBy told old old (due_by found (due_anew old.kept at ask))
       by_report None some = absurd (cc some)
       by_report (Some report) some = refl
 
@@ -565,9 +566,9 @@ module _ {D : Type 0} (told : D → DiskTold) where
       )
 
   -- a cycle is due, and found no memory
-  pub starved : (at : ℕ) (ask : CycleAsk) (old new : Lasting D) (due : Cycled) → report_of old.kept.reports ask.key ≡ None → due_anew old.kept at ask ≡ Rewinds due → old.closed ≡ false
+  pub out_of_memory : (at : ℕ) (ask : CycleAsk) (old new : Lasting D) (due : Cycled) → report_of old.kept.reports ask.key ≡ None → due_anew old.kept at ask ≡ Rewinds due → old.closed ≡ false
       → SealsNothing told old new → ReadsWell told old new → CyclesNone told at ask old new cycle_faults.NoMemory
-  starved at ask old new due anew due_is open_ nothing well = subst (StarvesBy told old new) (sym (due_new old.kept at ask anew ∙ due_is)) (open_, nothing, well)
+  out_of_memory at ask old new due anew due_is open_ nothing well = subst (RunsOutOfMemoryBy told old new) (sym (due_new old.kept at ask anew ∙ due_is)) (open_, nothing, well)
 
   -- a cycle that was not sealed
   pub cycles_none : (at : ℕ) (ask : CycleAsk) (old new : Lasting D) (due : Cycled) (fault : SealFault) (out : CycleFault)
@@ -576,7 +577,7 @@ module _ {D : Type 0} (told : D → DiskTold) where
   cycles_none at ask old new due log_faults.Disk out anew due_is open_ is none well =
       subst (CyclesNone told at ask old new) (sym is) (open_, inl (due, due_new old.kept at ask anew ∙ due_is, none, well))
   cycles_none at ask old new due log_faults.NoMemory out anew due_is open_ is none well =
-      subst (CyclesNone told at ask old new) (sym is) (starved at ask old new due anew due_is open_ none well)
+      subst (CyclesNone told at ask old new) (sym is) (out_of_memory at ask old new due anew due_is open_ none well)
   cycles_none at ask old new due log_faults.Closed out anew due_is open_ is none well = absurd none
 
   -- no cycle in memory
@@ -592,9 +593,9 @@ module _ {D : Type 0} (told : D → DiskTold) where
   refused at ask old new refusals.Disk out still nothing untouched anew open_ refusal cause is =
       subst (CyclesNone told at ask old new) (sym is) (open_, inr (subst IsRewinds (sym (due_new old.kept at ask anew)) refusal, still, cause))
   refused at ask old new refusals.NoMemory out still nothing untouched anew open_ refusal cause is =
-      subst (CyclesNone told at ask old new) (sym is) (subst (StarvesBy told old new) (sym (due_new old.kept at ask anew)) (by_due (due_anew old.kept at ask) refusal))
+      subst (CyclesNone told at ask old new) (sym is) (subst (RunsOutOfMemoryBy told old new) (sym (due_new old.kept at ask anew)) (by_due (due_anew old.kept at ask) refusal))
     where
-      by_due : (due : Due) → IsRewinds due → StarvesBy told old new due
+      by_due : (due : Due) → IsRewinds due → RunsOutOfMemoryBy told old new due
       by_due (Repeats report) wanted = absurd wanted
       by_due NoPoint wanted = absurd wanted
       by_due NoNumbers wanted = absurd wanted
@@ -645,10 +646,10 @@ module _ {D : Type 0} (told : D → DiskTold) (disk : D) (before after : Held) (
         (sealed.reads ∙ well)
 
   -- there was no memory for what is to be put in place
-  pub cycle_starved : CyclesAs told First at ask made → report_of before.kept.reports ask.key ≡ None → old.closed ≡ false → ((d : D) → (told d).honest → IsHonest (told d)) → (told old.disk).failed_reads ≡ (told disk).failed_reads → after.kept ≡ before.kept → after.notes ≡ before.notes → after.marks ≡ before.marks
+  pub cycle_out_of_memory : CyclesAs told First at ask made → report_of before.kept.reports ask.key ≡ None → old.closed ≡ false → ((d : D) → (told d).honest → IsHonest (told d)) → (told old.disk).failed_reads ≡ (told disk).failed_reads → after.kept ≡ before.kept → after.notes ≡ before.notes → after.marks ≡ before.marks
       → CyclesNone told at ask First (lasting after old) cycle_faults.NoMemory
-  cycle_starved red anew open_ truth well kept notes marks =
-      starved told at ask First (lasting after old) (cycled_at before.kept at ask red.is_made.place) anew red.is_made.due open_ (nothing_sealed told disk before after old old (Cycle before.kept.next at ask) bytes reads open_ truth kept notes marks) well
+  cycle_out_of_memory red anew open_ truth well kept notes marks =
+      out_of_memory told at ask First (lasting after old) (cycled_at before.kept at ask red.is_made.place) anew red.is_made.due open_ (nothing_sealed told disk before after old old (Cycle before.kept.next at ask) bytes reads open_ truth kept notes marks) well
 
 -- ---- a journal that was read
 

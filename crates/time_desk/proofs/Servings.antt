@@ -25,7 +25,7 @@ use Rattle.store_kept.specs.Bases.{HasBase}
 use Rattle.store_kept.specs.Texts.{all_bodies, has_text_among, has_text_with}
 use Rattle.store_kept.specs.Kept.{BaseTexts, Kept, not_behind}
 use Rattle.repair_desk.proofs.Everywhere.{taken}
-use Rattle.time_desk.specs.Serving.{BeginsBy, CanServe, FindsLast, IsLastToServe, IsNewest, NoneServes, Serves, ServesBy, bytes_at, can_serve, store_from, store_in}
+use Rattle.time_desk.specs.Serving.{BeginsBy, CanServe, FindsLast, IsLastToServe, IsNewest, NoneServes, CanBegin, ServesBy, bytes_at, can_serve, store_from, store_in}
 use Rattle.time_desk.specs.Replaying.{some_marked, some_of}
 use Rattle.desk_journal.specs.Stored.{snapshot_at, store_at}
 
@@ -173,7 +173,7 @@ marked_due kept place [] counts some = absurd (some refl)
 marked_due kept place (m ∷ ms) counts some = sym (ap (λ (ps : List ℕ). some_of ps) counts)
 
 -- the store before the first item serves
-pub serves_first : {E : Type 0} (kept : Kept) (place : ℕ) (result : Result Beginning E) → IfOk result (λ first. first.count ≡ 0) → IfOk result (λ first. CanServe kept 0 first.store.store) → IfOk result (Serves kept place)
+pub serves_first : {E : Type 0} (kept : Kept) (place : ℕ) (result : Result Beginning E) → IfOk result (λ first. first.count ≡ 0) → IfOk result (λ first. CanServe kept 0 first.store.store) → IfOk result (CanBegin kept place)
 serves_first kept place (Ok first) count serves = record { few = subst (λ (n : ℕ). n ≤ place) (sym count) (omega arith); serves = subst (λ (n : ℕ). CanServe kept n first.store.store) (sym count) serves }
 serves_first kept place (Err e) count serves = tt
 

@@ -122,7 +122,6 @@ item_follows kept i sound formed number rev = record {
   opens = λ opens. opens;
 }
 
--- the record of an item
 item_record : (kept new : Kept) (what : JournalRecord) (i : Item) → (HasSpelling what → i.rev ≡ 0) → IsSound kept → after_item kept what i ≡ Some new → Follows kept new
 item_record kept new what i rev sound is = by (is_spelled what) (can_follow kept i) refl refl is
   where

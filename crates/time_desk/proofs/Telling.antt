@@ -62,7 +62,6 @@ own_items (i ∷ t) apart =
         let other : (i.number == j.number) ≡ false = let apart : i.number ≢ j.number = others.0 in grind (arith, nat_tests) in
         (rw other all.0, later s others.1 all.1)
 
--- its text
 pub item_text : (t : List Item) (i : Item) → NumbersApart t → item_of t i.number ≡ Some i → text_of t (body_of i) ≡ text_in i.deed
 item_text t i apart own =
     let here : (i.rev == i.rev) ≡ true = grind (arith, nat_tests) in

@@ -3,7 +3,7 @@ use Rattle.std.proofs.Common.{◌∙◌, ℕ, Result, Ok, Err, IfErr, OnOk, inl,
 use Rattle.undo_outside.specs.Calls.{RoseOnce}
 use Rattle.undo_outside.specs.Disk.{DiskTold, IsHonest}
 use Rattle.paradox.specs.declared.reports.Report.{Report}
-use Rattle.seal_log.specs.Causes.{Fed, SealWants}
+use Rattle.seal_log.specs.Causes.{FindsMemory, SealWants}
 use Rattle.seal_log.specs.declared.fault.SealFault.{SealFault}
 use Rattle.seal_log.specs.declared.fault.SealFault.TheVariants as log_faults
 use Rattle.seal_log.specs.Settled.{ReadsAlone}
@@ -19,27 +19,27 @@ module _ {D : Type 0} (told : D → DiskTold) where
   sealing_wants truth old new log_faults.Disk out is wants = subst (CycleWants told old new) (sym is) (wants.disk refl)
   sealing_wants truth old new log_faults.NoMemory out is wants =
       subst (CycleWants told old new) (sym is)
-      (⊎_elim (λ same. inl (subst (λ (d : D). ReadsAlone (told old) (told d)) (sym same) (reads_none (told old) (truth old)))) (λ starved. inr starved) (wants.no_memory refl))
+      (⊎_elim (λ same. inl (subst (λ (d : D). ReadsAlone (told old) (told d)) (sym same) (reads_none (told old) (truth old)))) (λ out_of_memory. inr out_of_memory) (wants.no_memory refl))
   sealing_wants truth old new log_faults.Closed out is wants = absurd is
 
   -- where texts were read alone
   pub reading_wants : (old new : D) (fault : CycleFault) → ReadsAlone (told old) (told new) → CycleWants told old new fault
-  reading_wants old new (Point given) reads = reads.fed
-  reading_wants old new (Numbers next) reads = reads.fed
-  reading_wants old new Disk reads = reads.fed
+  reading_wants old new (Point given) reads = reads.finds_memory
+  reading_wants old new (Numbers next) reads = reads.finds_memory
+  reading_wants old new Disk reads = reads.finds_memory
   reading_wants old new NoMemory reads = inl reads
-  reading_wants old new Closed reads = reads.fed
+  reading_wants old new Closed reads = reads.finds_memory
 
   -- behind texts that were read
   pub wants_later : (old mid new : D) (result : Result Report CycleFault) → ReadsAlone (told old) (told mid) → IfErr result (λ fault. CycleWants told mid new fault) → IfErr result (λ fault. CycleWants told old new fault)
   wants_later old mid new (Ok report) reads wants = tt
-  wants_later old mid new (Err (Point given)) reads fed = fed ∙ reads.fed
-  wants_later old mid new (Err (Numbers next)) reads fed = fed ∙ reads.fed
-  wants_later old mid new (Err Disk) reads fed = fed ∙ reads.fed
+  wants_later old mid new (Err (Point given)) reads finds_memory = finds_memory ∙ reads.finds_memory
+  wants_later old mid new (Err (Numbers next)) reads finds_memory = finds_memory ∙ reads.finds_memory
+  wants_later old mid new (Err Disk) reads finds_memory = finds_memory ∙ reads.finds_memory
   wants_later old mid new (Err NoMemory) reads (inl more) = inl (reads_joined (told old) (told mid) (told new) reads more)
-  wants_later old mid new (Err NoMemory) reads (inr (rose, last)) = inr (subst (λ (n : ℕ). RoseOnce n (told new).starved) reads.fed rose, last)
-  wants_later old mid new (Err Closed) reads fed = fed ∙ reads.fed
+  wants_later old mid new (Err NoMemory) reads (inr (rose, last)) = inr (subst (λ (n : ℕ). RoseOnce n (told new).out_of_memory) reads.finds_memory rose, last)
+  wants_later old mid new (Err Closed) reads finds_memory = finds_memory ∙ reads.finds_memory
 
-  pub fed_later : (old mid new : D) (result : Result Report CycleFault) → ReadsAlone (told old) (told mid) → OnOk result (Fed (told mid) (told new)) → OnOk result (Fed (told old) (told new))
-  fed_later old mid new (Ok report) reads fed = fed ∙ reads.fed
-  fed_later old mid new (Err fault) reads fed = tt
+  pub fed_later : (old mid new : D) (result : Result Report CycleFault) → ReadsAlone (told old) (told mid) → OnOk result (FindsMemory (told mid) (told new)) → OnOk result (FindsMemory (told old) (told new))
+  fed_later old mid new (Ok report) reads finds_memory = finds_memory ∙ reads.finds_memory
+  fed_later old mid new (Err fault) reads finds_memory = tt

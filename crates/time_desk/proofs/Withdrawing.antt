@@ -12,7 +12,7 @@ use Rattle.verb_core.specs.declared.item.Item.{Item}
 use Rattle.verb_bytes.specs.declared.journal.JournalRecord.TheVariants.{Withdraw}
 use Rattle.verb_bytes.specs.Spelling.{record_bytes}
 use Rattle.paradox.specs.declared.reports.Report.{Report}
-use Rattle.seal_log.specs.Causes.{Fed, SealWants}
+use Rattle.seal_log.specs.Causes.{FindsMemory, SealWants}
 use Rattle.seal_log.specs.Journal.{LiesAt}
 use Rattle.seal_log.specs.Settled.{ReadsAlone}
 use Rattle.seal_log.specs.declared.fault.SealFault.{SealFault}
@@ -52,7 +52,7 @@ use Rattle.desk_journal.specs.Submitting.{SealsBytes, SealsNone, SealsNothing}
 use Rattle.desk_journal.specs.Telling.{HoldsHeld, told_first}
 use Rattle.desk_journal.proofs.Holding.{noted_later}
 use Rattle.desk_journal.proofs.Truth.{true_as}
-use Rattle.time_desk.specs.Cycling.{CanRework, DoesBy, IsFit, RedoesCause, Reworks, StarvesBy, after_rewound, asked_then, most_begun, most_reworked}
+use Rattle.time_desk.specs.Cycling.{CanRework, DoesBy, IsFit, RedoesCause, Reworks, RunsOutOfMemoryBy, after_rewound, asked_then, most_begun, most_reworked}
 use Rattle.time_desk.specs.Serving.{unmarked}
 use Rattle.time_desk.specs.Withdrawing.{IsRetold, IsWithdrawalOutcomeOf, IsWithdrawn, WithdrawalWants, Withdraws, WithdrawsInSteps, WithdrawsNone}
 use Rattle.time_desk.specs.declared.fault.WithdrawFault.{WithdrawFault}
@@ -311,10 +311,10 @@ module _ {D : Type 0} (told : D → DiskTold) where
   withdrawn_again at key of old report had = subst (DoesBy told (Withdraw old.kept.next at key of) (after_withdrawal old.kept key) old old report) (sym (withdraw_again old.kept at key of report had)) (refl, refl)
 
   -- no memory for the copy of a report of before
-  pub starved_again : (at : ℕ) (key : List ℕ) (of : ℕ) (old : Lasting D) → IsSome (report_of old.kept.reports key) → WithdrawsNone told at key of old old faults.NoMemory
-  starved_again at key of old had = by_report (report_of old.kept.reports key) had
+  pub out_of_memory_again : (at : ℕ) (key : List ℕ) (of : ℕ) (old : Lasting D) → IsSome (report_of old.kept.reports key) → WithdrawsNone told at key of old old faults.NoMemory
+  out_of_memory_again at key of old had = by_report (report_of old.kept.reports key) had
     where
-      by_report : (found : Option Report) → IsSome found → StarvesBy told old old (due_by found (withdraw_due_anew old.kept at of))
+      by_report : (found : Option Report) → IsSome found → RunsOutOfMemoryBy told old old (due_by found (withdraw_due_anew old.kept at of))
       by_report None some = absurd (cc some)
       by_report (Some report) some = refl
 
@@ -331,9 +331,9 @@ module _ {D : Type 0} (told : D → DiskTold) where
       )
 
   -- one is due, and found no memory
-  starved : (at : ℕ) (key : List ℕ) (of : ℕ) (old new : Lasting D) (due : Cycled) → report_of old.kept.reports key ≡ None → withdraw_due_anew old.kept at of ≡ Rewinds due → old.closed ≡ false
+  out_of_memory : (at : ℕ) (key : List ℕ) (of : ℕ) (old new : Lasting D) (due : Cycled) → report_of old.kept.reports key ≡ None → withdraw_due_anew old.kept at of ≡ Rewinds due → old.closed ≡ false
       → SealsNothing told old new → ReadsWell told old new → WithdrawsNone told at key of old new faults.NoMemory
-  starved at key of old new due anew due_is open_ nothing well = subst (StarvesBy told old new) (sym (withdraw_new old.kept at key of anew ∙ due_is)) (open_, nothing, well)
+  out_of_memory at key of old new due anew due_is open_ nothing well = subst (RunsOutOfMemoryBy told old new) (sym (withdraw_new old.kept at key of anew ∙ due_is)) (open_, nothing, well)
 
   -- one that was not sealed
   withdraws_none : (at : ℕ) (key : List ℕ) (of : ℕ) (old new : Lasting D) (due : Cycled) (fault : SealFault) (out : WithdrawFault)
@@ -342,7 +342,7 @@ module _ {D : Type 0} (told : D → DiskTold) where
   withdraws_none at key of old new due log_faults.Disk out anew due_is open_ is none well =
       subst (WithdrawsNone told at key of old new) (sym is) (open_, inl (due, withdraw_new old.kept at key of anew ∙ due_is, none, well))
   withdraws_none at key of old new due log_faults.NoMemory out anew due_is open_ is none well =
-      subst (WithdrawsNone told at key of old new) (sym is) (starved at key of old new due anew due_is open_ none well)
+      subst (WithdrawsNone told at key of old new) (sym is) (out_of_memory at key of old new due anew due_is open_ none well)
   withdraws_none at key of old new due log_faults.Closed out anew due_is open_ is none well = absurd none
 
   -- none in memory
@@ -358,9 +358,9 @@ module _ {D : Type 0} (told : D → DiskTold) where
   refused at key of old new refusals.Disk out still nothing untouched anew open_ refusal cause is =
       subst (WithdrawsNone told at key of old new) (sym is) (open_, inr (subst IsRewinds (sym (withdraw_new old.kept at key of anew)) refusal, still, cause))
   refused at key of old new refusals.NoMemory out still nothing untouched anew open_ refusal cause is =
-      subst (WithdrawsNone told at key of old new) (sym is) (subst (StarvesBy told old new) (sym (withdraw_new old.kept at key of anew)) (by_due (withdraw_due_anew old.kept at of) refusal))
+      subst (WithdrawsNone told at key of old new) (sym is) (subst (RunsOutOfMemoryBy told old new) (sym (withdraw_new old.kept at key of anew)) (by_due (withdraw_due_anew old.kept at of) refusal))
     where
-      by_due : (due : Due) → IsRewinds due → StarvesBy told old new due
+      by_due : (due : Due) → IsRewinds due → RunsOutOfMemoryBy told old new due
       by_due (Repeats report) wanted = absurd wanted
       by_due NoPoint wanted = absurd wanted
       by_due NoNumbers wanted = absurd wanted
@@ -412,10 +412,10 @@ module _ {D : Type 0} (told : D → DiskTold) (disk : D) (before after : Held) (
         (sealed.reads ∙ well)
 
   -- there was no memory for what is to be put in place
-  pub withdrawal_starved : IsWithdrawn before.kept at of (HoldsTexts told First) made → report_of before.kept.reports key ≡ None → ((d : D) → (told d).honest → IsHonest (told d)) → (told old.disk).failed_reads ≡ (told disk).failed_reads
+  pub withdrawal_out_of_memory : IsWithdrawn before.kept at of (HoldsTexts told First) made → report_of before.kept.reports key ≡ None → ((d : D) → (told d).honest → IsHonest (told d)) → (told old.disk).failed_reads ≡ (told disk).failed_reads
       → after.kept ≡ before.kept → after.notes ≡ before.notes → after.marks ≡ before.marks → WithdrawsNone told at key of First (lasting after old) faults.NoMemory
-  withdrawal_starved is anew truth well kept notes marks =
-      starved told at key of First (lasting after old) (withdrawn_at before.kept at is.last) anew is.due open_
+  withdrawal_out_of_memory is anew truth well kept notes marks =
+      out_of_memory told at key of First (lasting after old) (withdrawn_at before.kept at is.last) anew is.due open_
       (nothing_sealed told disk before after old old (Withdraw before.kept.next at key of) bytes reads open_ truth kept notes marks) well
 
 -- the notes that it leaves lie before the gate behind it
@@ -436,30 +436,30 @@ module _ {D : Type 0} (told : D → DiskTold) where
   sealing_wants truth old new log_faults.Disk out is wants = subst (WithdrawalWants told old new) (sym is) (wants.disk refl)
   sealing_wants truth old new log_faults.NoMemory out is wants =
       subst (WithdrawalWants told old new) (sym is)
-      (⊎_elim (λ same. inl (subst (λ (d : D). ReadsAlone (told old) (told d)) (sym same) (reads_none (told old) (truth old)))) (λ starved. inr starved) (wants.no_memory refl))
+      (⊎_elim (λ same. inl (subst (λ (d : D). ReadsAlone (told old) (told d)) (sym same) (reads_none (told old) (truth old)))) (λ out_of_memory. inr out_of_memory) (wants.no_memory refl))
   sealing_wants truth old new log_faults.Closed out is wants = absurd is
 
   -- where texts were read alone
   pub reading_wants : (old new : D) (fault : WithdrawFault) → ReadsAlone (told old) (told new) → WithdrawalWants told old new fault
-  reading_wants old new (faults.Cycle given) reads = reads.fed
-  reading_wants old new (faults.Numbers next) reads = reads.fed
-  reading_wants old new faults.Disk reads = reads.fed
+  reading_wants old new (faults.Cycle given) reads = reads.finds_memory
+  reading_wants old new (faults.Numbers next) reads = reads.finds_memory
+  reading_wants old new faults.Disk reads = reads.finds_memory
   reading_wants old new faults.NoMemory reads = inl reads
-  reading_wants old new faults.Closed reads = reads.fed
+  reading_wants old new faults.Closed reads = reads.finds_memory
 
   -- behind texts that were read
   pub wants_later : (old mid new : D) (result : Result Report WithdrawFault) → ReadsAlone (told old) (told mid) → IfErr result (λ fault. WithdrawalWants told mid new fault) → IfErr result (λ fault. WithdrawalWants told old new fault)
   wants_later old mid new (Ok report) reads wants = tt
-  wants_later old mid new (Err (faults.Cycle given)) reads fed = fed ∙ reads.fed
-  wants_later old mid new (Err (faults.Numbers next)) reads fed = fed ∙ reads.fed
-  wants_later old mid new (Err faults.Disk) reads fed = fed ∙ reads.fed
+  wants_later old mid new (Err (faults.Cycle given)) reads finds_memory = finds_memory ∙ reads.finds_memory
+  wants_later old mid new (Err (faults.Numbers next)) reads finds_memory = finds_memory ∙ reads.finds_memory
+  wants_later old mid new (Err faults.Disk) reads finds_memory = finds_memory ∙ reads.finds_memory
   wants_later old mid new (Err faults.NoMemory) reads (inl more) = inl (reads_joined (told old) (told mid) (told new) reads more)
-  wants_later old mid new (Err faults.NoMemory) reads (inr (rose, last)) = inr (subst (λ (n : ℕ). RoseOnce n (told new).starved) reads.fed rose, last)
-  wants_later old mid new (Err faults.Closed) reads fed = fed ∙ reads.fed
+  wants_later old mid new (Err faults.NoMemory) reads (inr (rose, last)) = inr (subst (λ (n : ℕ). RoseOnce n (told new).out_of_memory) reads.finds_memory rose, last)
+  wants_later old mid new (Err faults.Closed) reads finds_memory = finds_memory ∙ reads.finds_memory
 
-  pub fed_later : (old mid new : D) (result : Result Report WithdrawFault) → ReadsAlone (told old) (told mid) → OnOk result (Fed (told mid) (told new)) → OnOk result (Fed (told old) (told new))
-  fed_later old mid new (Ok report) reads fed = fed ∙ reads.fed
-  fed_later old mid new (Err fault) reads fed = tt
+  pub fed_later : (old mid new : D) (result : Result Report WithdrawFault) → ReadsAlone (told old) (told mid) → OnOk result (FindsMemory (told mid) (told new)) → OnOk result (FindsMemory (told old) (told new))
+  fed_later old mid new (Ok report) reads finds_memory = finds_memory ∙ reads.finds_memory
+  fed_later old mid new (Err fault) reads finds_memory = tt
 
   -- what was in memory is what was made from a first desk on
   pub withdrawn_as : (held : Held) (old new : JournalTold D) (at of : ℕ) (made : Rewound) → IsWithdrawn held.kept at of (HoldsHeld (told old.disk) held) made

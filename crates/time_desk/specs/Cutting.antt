@@ -24,8 +24,8 @@ use Rattle.time_desk.specs.declared.fault.CycleFault.TheVariants.{Point, Numbers
 abbrev pub base_record : Kept → JournalRecord
 base_record kept = BaseRecord kept.next kept.deep kept.base.conf kept.base.boxes kept.stamps kept.reports
 
--- These are the parts of what is kept, in a journal that begins with it: the payloads of its Format and of its Base, the bodies that the
--- base names, and the items in force, without their texts.
+-- These are the parts of what is kept, in a journal that begins with it. They are the payloads of its Format and of its Base, the bodies
+-- that the base names, and the items in force, without their texts.
 pub record AreParts (kept : Kept) (parts : CutParts) : Type 0 where
   pub head : parts.head ≡ record_bytes (Format kept.house kept.opening)
   pub base : parts.base ≡ record_bytes (base_record kept)

@@ -1,6 +1,6 @@
 -- What becomes of a request for a cycle.
 use Rattle.std.specs.Prelude.{◌≡◌, ◌⊎◌, ◌≤◌, ◌+◌, ◌-◌, ℕ, Bool, true, false, [], ◌∷◌, List, length, None, Some, Result, Ok, Err, IfErr, IfOk, OnErr, OnOk, IsTrue}
-use Rattle.undo_outside.specs.Disk.{DiskTold, ReadFailed, WriteStarved}
+use Rattle.undo_outside.specs.Disk.{DiskTold, ReadFailed, WriteOutOfMemory}
 use Rattle.verb_core.specs.declared.bodies.BodiesFault.{BodiesFault}
 use Rattle.verb_core.specs.declared.mailbox.Body.{Body}
 use Rattle.verb_bytes.specs.declared.journal.CycleAsk.{CycleAsk}
@@ -23,7 +23,7 @@ use Rattle.mail_cycle.specs.declared.settling.Rewound.{Rewound}
 use Rattle.mail_cycle.specs.declared.refused.CycleRefused.{CycleRefused}
 use Rattle.mail_cycle.specs.declared.refused.CycleRefused.TheVariants as refusals
 use Rattle.seal_log.specs.declared.place.Place.{Place}
-use Rattle.seal_log.specs.Causes.{Fed}
+use Rattle.seal_log.specs.Causes.{FindsMemory}
 use Rattle.seal_log.specs.Settled.{ReadsAlone}
 use Rattle.shelf.specs.declared.note.Note.{Note}
 use Rattle.mail_desk.specs.declared.noting.Fresh.{Fresh}
@@ -76,8 +76,8 @@ after_rewound kept key undoes made = left_as kept key (left_of undoes made)
 abbrev pub asked_then : Kept → Bool → Rewound → List Item
 asked_then kept undoes made = items_asked (after_rewound kept [] undoes made)
 
--- how many items a repair with so many acts performs at most: those through the place behind the newest snapshot there, the acts
--- that come in, the later items that stay, and the notices
+-- How many items a repair with so many acts performs at most. They are those through the place behind the newest snapshot there,
+-- the acts that come in, the later items that stay, and the notices.
 abbrev pub most_reworked : Kept → ℕ → Cycled → ℕ
 most_reworked kept acts due = (due.place - newest_at due.place kept.marks.places) + acts + due.report.kept + length due.report.notices
 
@@ -85,14 +85,14 @@ most_reworked kept acts due = (due.place - newest_at due.place kept.marks.places
 abbrev pub most_begun : Kept → ℕ → Cycled → ℕ
 most_begun kept acts due = (due.place - newest_at due.place kept.marks.places) + acts + due.report.kept + length kept.house.accounts
 
--- A repair of what is kept can be performed in memory: what it leaves can be gone on with, and the text of each of its items is one
+-- A repair of what is kept can be performed in memory. What it leaves can be gone on with, and the text of each of its items is one
 -- that it brings, or can be read before a gate, whatever the disk.
 pub record CanRework {D : Type 0} (told : D → DiskTold) (held : Held) (gate : ℕ) (t : Task) : Type 0 where
   pub kept : t.kept ≡ unmarked held.kept
   pub goes : GoesWith held.kept t.repair
   pub tells : (disk : D) → TellsAll (told_first told (record { disk = disk; end = gate }) held held.kept.next t.texts) t.repair.items
 
--- What comes of it: what is left in memory is made of the items as they were read, and can be put in place; or a read failed exactly
+-- What comes of it: what is left in memory is made of the items as they were read, and can be put in place. Or a read failed exactly
 -- where that is why there is none. The disk was read alone, and steps were counted from the newest snapshot on, also where there is
 -- none: no item was performed twice.
 pub record Reworks {D : Type 0} (told : D → DiskTold) (held : Held) (t : Task) (old new : PastTold D) (before after : ℕ) (result : Result Rewound BodiesFault) : Type 0 where
@@ -176,8 +176,8 @@ IsCycleOutcomeOf log_faults.Closed fault = ⊥
 abbrev pub Tries : Kept → ℕ → CycleAsk → Type 0 → Report → Type 0
 Tries kept at ask told report = (due : Cycled) × (due_anew kept at ask ≡ Rewinds due) × (told → report ≡ due.report)
 
--- why a trial has no report: the timeline does not have the point, or else too few numbers are left; memory is wanted, and
--- texts are read, where a cycle is due alone. A read failed exactly where it says so.
+-- Why a trial has no report: the timeline does not have the point, or else too few numbers are left. Memory is wanted, and texts
+-- are read, where a cycle is due alone. A read failed exactly where it says so.
 abbrev pub TriesNone : Kept → ℕ → CycleAsk → DiskTold → DiskTold → CycleFault → Type 0
 TriesNone kept at ask old new (Point given) = (due_anew kept at ask ≡ NoPoint) × (given ≡ ask.point) × (new.failed_reads ≡ old.failed_reads)
 TriesNone kept at ask old new (Numbers next) = (due_anew kept at ask ≡ NoNumbers) × (next ≡ kept.next) × (new.failed_reads ≡ old.failed_reads)
@@ -188,8 +188,8 @@ TriesNone kept at ask old new Closed = ⊥
 -- ---- a cycle
 
 module _ {D : Type 0} (told : D → DiskTold) where
-  -- By what is due to a request that a record is of: a key that a cycle or a withdrawal had is answered with its report, and nothing
-  -- changes; else the one record is sealed, and where the texts lie on the disk as they are noted, what is kept is what it leaves.
+  -- By what is due to a request that a record is of. A key that a cycle or a withdrawal had is answered with its report, and nothing
+  -- changes. Else the one record is sealed, and where the texts lie on the disk as they are noted, what is kept is what it leaves.
   abbrev pub DoesBy : JournalRecord → (Cycled → Kept) → Lasting D → Lasting D → Report → Due → Type 0
   DoesBy what after old new report (Repeats earlier) = (report ≡ earlier) × (new ≡ old)
   DoesBy what after old new report NoPoint = ⊥
@@ -197,7 +197,6 @@ module _ {D : Type 0} (told : D → DiskTold) where
   DoesBy what after old new report (Rewinds due) =
       (old.closed ≡ false) × (HoldsTexts told old → (report ≡ due.report) × (new.kept ≡ after due)) × Seals told (what ∷ []) [] old new
 
-  -- of a cycle
   abbrev pub CyclesBy : ℕ → CycleAsk → Lasting D → Lasting D → Report → Due → Type 0
   CyclesBy at ask old new report due = DoesBy (Cycle old.kept.next at ask) (after_cycle old.kept ask) old new report due
 
@@ -210,13 +209,13 @@ module _ {D : Type 0} (told : D → DiskTold) where
   abbrev pub Cycles : ℕ → CycleAsk → Lasting D → Lasting D → Report → Type 0
   Cycles at ask old new report = CyclesBy at ask old new report (cycle_due old.kept at ask)
 
-  -- want of memory, by what is due: it is wanted for a report or for a cycle, never where the point or the numbers are missing;
-  -- nothing was sealed, and no read failed
-  abbrev pub StarvesBy : Lasting D → Lasting D → Due → Type 0
-  StarvesBy old new (Repeats earlier) = new ≡ old
-  StarvesBy old new NoPoint = ⊥
-  StarvesBy old new NoNumbers = ⊥
-  StarvesBy old new (Rewinds due) = (old.closed ≡ false) × SealsNothing told old new × ReadsWell told old new
+  -- Want of memory, by what is due. It is wanted for a report or for a cycle, never where the point or the numbers are missing;
+  -- nothing was sealed, and no read failed.
+  abbrev pub RunsOutOfMemoryBy : Lasting D → Lasting D → Due → Type 0
+  RunsOutOfMemoryBy old new (Repeats earlier) = new ≡ old
+  RunsOutOfMemoryBy old new NoPoint = ⊥
+  RunsOutOfMemoryBy old new NoNumbers = ⊥
+  RunsOutOfMemoryBy old new (Rewinds due) = (old.closed ≡ false) × SealsNothing told old new × ReadsWell told old new
 
   -- one is due, and the sealing of its record failed, behind reads that did not
   abbrev pub FailsToSeal : JournalRecord → Lasting D → Lasting D → Due → Type 0
@@ -232,21 +231,21 @@ module _ {D : Type 0} (told : D → DiskTold) where
   abbrev pub FailsToRead : ℕ → CycleAsk → Lasting D → Lasting D → Type 0
   FailsToRead at ask old new = FailsToReadFor old new (cycle_due old.kept at ask)
 
-  -- Why a request has no report: the point or the numbers are missing, exactly where that is due; or the record was not
-  -- sealed, and the desk is closed, or a text was not read, and it stays open; or no memory was found; or the desk was closed,
-  -- and no cycle had the key.
+  -- Why a request has no report: the point or the numbers are missing, exactly where that is due. Or the record was not sealed,
+  -- and the desk is closed, or a text was not read, and it stays open. Or no memory was found; or the desk was closed, and no
+  -- cycle had the key.
   abbrev pub CyclesNone : ℕ → CycleAsk → Lasting D → Lasting D → CycleFault → Type 0
   CyclesNone at ask old new (Point given) = (old.closed ≡ false) × (cycle_due old.kept at ask ≡ NoPoint) × (given ≡ ask.point) × (new ≡ old)
   CyclesNone at ask old new (Numbers next) = (old.closed ≡ false) × (cycle_due old.kept at ask ≡ NoNumbers) × (next ≡ old.kept.next) × (new ≡ old)
   CyclesNone at ask old new Disk = (old.closed ≡ false) × (FailsToCycle at ask old new ⊎ FailsToRead at ask old new)
-  CyclesNone at ask old new NoMemory = StarvesBy old new (cycle_due old.kept at ask)
+  CyclesNone at ask old new NoMemory = RunsOutOfMemoryBy old new (cycle_due old.kept at ask)
   CyclesNone at ask old new Closed = IsTrue old.closed × (report_of old.kept.reports ask.key ≡ None) × (new ≡ old)
 
-  -- Which writes found memory where a request has no report: all; but for want of memory none was made, or the last one that was
+  -- Which writes found memory where a request has no report: all. But for want of memory none was made, or the last one that was
   -- made may be the one that found none.
   abbrev pub CycleWants : D → D → CycleFault → Type 0
-  CycleWants old new (Point given) = Fed (told old) (told new)
-  CycleWants old new (Numbers next) = Fed (told old) (told new)
-  CycleWants old new Disk = Fed (told old) (told new)
-  CycleWants old new NoMemory = ReadsAlone (told old) (told new) ⊎ WriteStarved (told old) (told new)
-  CycleWants old new Closed = Fed (told old) (told new)
+  CycleWants old new (Point given) = FindsMemory (told old) (told new)
+  CycleWants old new (Numbers next) = FindsMemory (told old) (told new)
+  CycleWants old new Disk = FindsMemory (told old) (told new)
+  CycleWants old new NoMemory = ReadsAlone (told old) (told new) ⊎ WriteOutOfMemory (told old) (told new)
+  CycleWants old new Closed = FindsMemory (told old) (told new)

@@ -9,8 +9,8 @@ use Rattle.desk_journal.specs.Reading.{IsStill}
 use Rattle.desk_journal.specs.Stored.{HoldsTexts}
 
 module _ {D : Type 0} (told : D → DiskTold) where
-  -- what it tells: it holds the bodies that have a text; what is read is what was stored where the disk holds the texts; and its
-  -- count of faults is the disk's count of failed reads
+  -- What it tells: it holds the bodies that have a text. What is read is what was stored where the disk holds the texts, and its
+  -- count of faults is the disk's count of failed reads.
   abbrev pub desk_told : Lasting D → BodiesTold
   desk_told d = record {
     holds = has_text_kept d.kept;

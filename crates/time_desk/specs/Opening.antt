@@ -46,7 +46,7 @@ abbrev pub fits : Option Fore → JournalRecord → Bool
 fits None what = is_some (first_fore what)
 fits (Some f) what = not (goes_on what) || is_some (own f what)
 
--- The front is broken: behind what was read of it an open gate stands at this place, and behind it neither a record that goes on with
+-- The front is broken. Behind what was read of it an open gate stands at this place, and behind it neither a record that goes on with
 -- it nor one of another kind.
 pub record IsDamagedInFront (image : List ℕ) (place : ℕ) : Type 0 where
   pub records : List JournalRecord

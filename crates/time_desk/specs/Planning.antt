@@ -49,8 +49,8 @@ BodiesCause old new (Ok x) = new.failed_reads ≡ old.failed_reads
 BodiesCause old new (Err bodies_faults.Failed) = ReadFailed old new
 BodiesCause old new (Err bodies_faults.NoMemory) = new.failed_reads ≡ old.failed_reads
 
--- why no plan is told: the timeline does not have the point, exactly where it says so; where it has it a read may have failed,
--- exactly where it says so, if something is to be read, and want of memory is free
+-- Why no plan is told: the timeline does not have the point, exactly where it says so. Where it has it a read may have failed,
+-- exactly where it says so, if something is to be read; and want of memory is free.
 abbrev pub PlansNone : Kept → ℕ → DiskTold → DiskTold → CycleFault → Type 0
 PlansNone kept point old new (Point given) = (position kept.timeline point ≡ None) × (given ≡ point) × (new.failed_reads ≡ old.failed_reads)
 PlansNone kept point old new (Numbers next) = ⊥

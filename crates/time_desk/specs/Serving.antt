@@ -26,7 +26,7 @@ pub record CanServe (kept : Kept) (count : ℕ) (store : MailStore) : Type 0 whe
   pub texts : IsTrue (all_bodies (has_text_among kept (take count kept.timeline)) store.boxes)
 
 -- it stands behind no item that is later than a place
-pub record Serves (kept : Kept) (place : ℕ) (first : Beginning) : Type 0 where
+pub record CanBegin (kept : Kept) (place : ℕ) (first : Beginning) : Type 0 where
   pub few : first.count ≤ place
   pub serves : CanServe kept first.count first.store.store
 

@@ -166,7 +166,7 @@ pub record Opens (payloads : List (List ℕ)) (kept : Kept) (places : List Place
 
 -- ---- a journal's payloads that leave nothing
 
--- The front is broken: the first payloads spell what was read of it, and the next spells neither a record that goes on with it nor
+-- The front is broken. The first payloads spell what was read of it, and the next spells neither a record that goes on with it nor
 -- one of another kind; its gate is here.
 pub record BreaksInFront (payloads : List (List ℕ)) (place : ℕ) : Type 0 where
   pub records : List JournalRecord

@@ -1,6 +1,6 @@
 -- What becomes of a request for a withdrawal.
 use Rattle.std.specs.Prelude.{◌≡◌, ◌⊎◌, ◌≤◌, ◌+◌, ℕ, false, List, length, None, Some, Result, IfErr, IfOk, OnErr, OnOk, IsTrue}
-use Rattle.undo_outside.specs.Disk.{DiskTold, WriteStarved}
+use Rattle.undo_outside.specs.Disk.{DiskTold, WriteOutOfMemory}
 use Rattle.verb_bytes.specs.declared.journal.JournalRecord.TheVariants.{Withdraw}
 use Rattle.paradox.specs.declared.reports.Report.{Report}
 use Rattle.withdraw.specs.declared.undone.UndoneBehind.{UndoneBehind}
@@ -13,7 +13,7 @@ use Rattle.mail_cycle.specs.declared.refused.CycleRefused.TheVariants as refusal
 use Rattle.mail_cycle.specs.declared.settling.Rewound.{Rewound}
 use Rattle.mail_cycle.specs.Leaving.{IsMade, items_left}
 use Rattle.mail_cycle.specs.Refusing.{IsRefusalBy}
-use Rattle.seal_log.specs.Causes.{Fed}
+use Rattle.seal_log.specs.Causes.{FindsMemory}
 use Rattle.seal_log.specs.declared.fault.SealFault.{SealFault}
 use Rattle.seal_log.specs.declared.fault.SealFault.TheVariants as log_faults
 use Rattle.seal_log.specs.Settled.{ReadsAlone}
@@ -22,7 +22,7 @@ use Rattle.desk_journal.specs.Lasting.{Lasting}
 use Rattle.desk_journal.specs.Telling.{HoldsHeld}
 use Rattle.time_desk.specs.declared.fault.WithdrawFault.{WithdrawFault}
 use Rattle.time_desk.specs.declared.fault.WithdrawFault.TheVariants.{Cycle, Numbers, Disk, NoMemory, Closed}
-use Rattle.time_desk.specs.Cycling.{DoesBy, FailsToReadFor, FailsToSeal, IsFit, RedoesCause, StarvesBy, most_begun, most_reworked}
+use Rattle.time_desk.specs.Cycling.{DoesBy, FailsToReadFor, FailsToSeal, IsFit, RedoesCause, RunsOutOfMemoryBy, most_begun, most_reworked}
 
 -- ---- a withdrawal in memory
 
@@ -75,13 +75,13 @@ module _ {D : Type 0} (told : D → DiskTold) where
   WithdrawsNone at key of old new (Numbers next) = (old.closed ≡ false) × (withdraw_due old.kept at key of ≡ NoNumbers) × (next ≡ old.kept.next) × (new ≡ old)
   WithdrawsNone at key of old new Disk = (old.closed ≡ false)
       × (FailsToSeal told (Withdraw old.kept.next at key of) old new (withdraw_due old.kept at key of) ⊎ FailsToReadFor told old new (withdraw_due old.kept at key of))
-  WithdrawsNone at key of old new NoMemory = StarvesBy told old new (withdraw_due old.kept at key of)
+  WithdrawsNone at key of old new NoMemory = RunsOutOfMemoryBy told old new (withdraw_due old.kept at key of)
   WithdrawsNone at key of old new Closed = IsTrue old.closed × (report_of old.kept.reports key ≡ None) × (new ≡ old)
 
   -- which writes found memory where a request has no report
   abbrev pub WithdrawalWants : D → D → WithdrawFault → Type 0
-  WithdrawalWants old new (Cycle given) = Fed (told old) (told new)
-  WithdrawalWants old new (Numbers next) = Fed (told old) (told new)
-  WithdrawalWants old new Disk = Fed (told old) (told new)
-  WithdrawalWants old new NoMemory = ReadsAlone (told old) (told new) ⊎ WriteStarved (told old) (told new)
-  WithdrawalWants old new Closed = Fed (told old) (told new)
+  WithdrawalWants old new (Cycle given) = FindsMemory (told old) (told new)
+  WithdrawalWants old new (Numbers next) = FindsMemory (told old) (told new)
+  WithdrawalWants old new Disk = FindsMemory (told old) (told new)
+  WithdrawalWants old new NoMemory = ReadsAlone (told old) (told new) ⊎ WriteOutOfMemory (told old) (told new)
+  WithdrawalWants old new Closed = FindsMemory (told old) (told new)

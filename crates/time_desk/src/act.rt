@@ -6,7 +6,7 @@ ghost use Rattle.verb_core.specs.declared.item.Deed.TheVariants.{Act as Acts};
 ghost use Rattle.verb_core.specs.Items.{users_in};
 ghost use Rattle.verb_core.specs.Store.{is_known};
 ghost use Rattle.verb_bytes.specs.declared.journal.JournalRecord.TheVariants.{Operator};
-ghost use Rattle.seal_log.specs.Causes.{Fed};
+ghost use Rattle.seal_log.specs.Causes.{FindsMemory};
 ghost use Rattle.store_kept.specs.Kept.{performed};
 ghost use Rattle.mail_cycle.specs.Permanence.{UidsStay};
 ghost use Rattle.desk_journal.specs.Reading.{ReadsWell};
@@ -31,7 +31,7 @@ impl<D: Disk> Desk<D> {
         ensures marks { OnErr result (self.new.marks ≡ self.old.marks) }
         ensures why { IfErr result (λ fault. ActsNone D.told at act self.old self.new fault) }
         ensures reads { ReadsWell D.told self.old self.new }
-        ensures fed { OnOk result (Fed (D.told self.old.disk) (D.told self.new.disk)) }
+        ensures finds_memory { OnOk result (FindsMemory (D.told self.old.disk) (D.told self.new.disk)) }
         ensures wants { IfErr result (λ fault. ActWants D.told self.old.disk self.new.disk fault) }
         ensures closed { IsErrOf result ActFault.Closed ↔ IsTrue self.old.closed }
         ensures uids { UidsStay self.old.kept self.new.kept }

@@ -308,10 +308,10 @@ fn audit_past<D: Disk>(alloc: Global, past: &mut Past<D>) -> Result<Option<u64>,
 }
 
 impl<D: Disk> Desk<D> {
-    /// The gate of the first record of the journal that is not true of what was kept before it: a user's whose item shows another answer
-    /// than its deed has, or a snapshot of another store. None where each is true. What the journal opens with is taken as given. One
-    /// that decodes no more counts as not true. At `Disk` a read failed. It takes the memory of another desk. In time that grows as
-    /// that of opening the journal.
+    /// The gate of the first record of the journal that is not true of what was kept before it. That is a user's whose item shows
+    /// another answer than its deed has, or a snapshot of another store. None where each is true. What the journal opens with is taken
+    /// as given. One that decodes no more counts as not true. At `Disk` a read failed. It takes the memory of another desk. In time that
+    /// grows as that of opening the journal.
     pub fn audit(&mut self, alloc: Global) -> Result<Option<u64>, ReadFault>
         ensures told { (records : List TheRecord) (kept : Kept) → state records ≡ Some kept → Holds (D.told self.old.disk) (payloads_of records)
             → AllByRecursion IsPayload (payloads_of records) → self.old.gate ≡ length (sealed (payloads_of records)) → IfOk result (λ found. found ≡ false_record records) }

@@ -7,7 +7,7 @@ ghost use Rattle.verb_bytes.specs.Spelling.{HasSpelling, Spells, record_bytes};
 ghost use Rattle.seal_log.specs.Causes.{ReadAtCause};
 ghost use Rattle.seal_log.specs.Journal.{LiesAt};
 ghost use Rattle.seal_log.specs.Settled.{Holds};
-ghost use Rattle.time_desk.specs.Serving.{BeginsBy, CanServe, FindsLast, FindsNewest, IsNewest, Serves, ServesBy, SpelledBy, bytes_at, can_serve as serves, rows_in, store_from, store_in};
+ghost use Rattle.time_desk.specs.Serving.{BeginsBy, CanServe, FindsLast, FindsNewest, IsNewest, CanBegin, ServesBy, SpelledBy, bytes_at, can_serve as serves, rows_in, store_from, store_in};
 ghost use Rattle.time_desk.specs.Replaying.{some_marked};
 ghost use Rattle.desk_journal.specs.Stored.{MarkLies, MarkedBefore, MarksLie, store_at};
 ghost use Rattle.desk_journal.specs.Telling.{HoldsHeld, IsPastRead};
@@ -249,7 +249,7 @@ pub(crate) fn beginning<D: Disk>(
 ) -> Result<Beginning, ReadFault>
     requires marked { MarkedBefore past.old.end desk.now.marks }
     requires place { place ≤ length desk.now.kept.timeline }
-    ensures serves { IfOk result (Serves desk.now.kept place) }
+    ensures serves { IfOk result (CanBegin desk.now.kept place) }
     ensures newest { HoldsHeld (D.told past.old.disk) desk.now → IfOk result (IsNewest desk.now.kept place) }
     ensures passes { (D.told past.old.disk).honest → IfOk result (BeginsBy (D.told past.old.disk) desk.now place) }
     ensures first { some_marked desk.now.kept place ≡ false → IfOk result (λ first. (first.count ≡ 0) × (first.store.store ≡ desk.now.kept.base)) }

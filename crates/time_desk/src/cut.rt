@@ -17,7 +17,7 @@ ghost use Rattle.desk_journal.specs.Stored.{HoldsTexts, MarkedBefore, TextsNoted
 ghost use Rattle.desk_journal.specs.Telling.{HoldsHeld, IsOnlyRead, IsPastRead};
 ghost use Rattle.time_desk.specs.Cutting.{AreParts, Cuts, CutsNone, LedBy, bodies_once, body_key, key_body, keys_once};
 ghost use Rattle.time_desk.specs.Planning.{BodiesCause};
-ghost use Rattle.time_desk.specs.Serving.{Serves};
+ghost use Rattle.time_desk.specs.Serving.{CanBegin};
 
 use crate::beginning::beginning;
 use crate::plan::copies;
@@ -131,7 +131,7 @@ fn led_behind<B: Bodies>(
     place: usize,
 ) -> Result<Store, BodiesFault>
     requires place { place ≤ length desk.now.kept.timeline }
-    requires serves { Serves desk.now.kept place first }
+    requires serves { CanBegin desk.now.kept place first }
     requires texts { TellsAll (B.told bodies.old) desk.now.kept.timeline }
     ensures store { (B.told bodies.old).honest → first.store.store ≡ store_at desk.now.kept first.count → IfOk result (λ made. made.store ≡ store_at desk.now.kept place) }
     ensures texts { IfOk result (λ made. IsTrue (all_bodies (has_text_kept desk.now.kept) made.store.boxes)) }
@@ -159,7 +159,7 @@ fn store_from<D: Disk>(
 ) -> Result<Store, BodiesFault>
     requires noted { TextsNoted past.old.end desk.now.notes desk.now.kept }
     requires place { place ≤ length desk.now.kept.timeline }
-    requires serves { Serves desk.now.kept place first }
+    requires serves { CanBegin desk.now.kept place first }
     ensures store { HoldsHeld (D.told past.old.disk) desk.now → first.store.store ≡ store_at desk.now.kept first.count → IfOk result (λ made. made.store ≡ store_at desk.now.kept place) }
     ensures texts { IfOk result (λ made. IsTrue (all_bodies (has_text_kept desk.now.kept) made.store.boxes)) }
     ensures cause { BodiesCause (D.told past.old.disk) (D.told past.new.disk) result }

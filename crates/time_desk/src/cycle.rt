@@ -1,6 +1,6 @@
 //! What the operator asks of the past: a cycle, and a trial of one.
 ghost use Rattle.std.specs.Prelude.{◌≡◌, ◌+◌, ◌≤◌, ℕ, true, false, None, length, option_copied, IsTrue, IsSome, IfOk, OnOk, IfErr, OnErr};
-ghost use Rattle.seal_log.specs.Causes.{Fed};
+ghost use Rattle.seal_log.specs.Causes.{FindsMemory};
 ghost use Rattle.seal_log.specs.Settled.{ReadsAlone};
 ghost use Rattle.verb_bytes.specs.declared.journal.JournalRecord.TheVariants.{Cycle};
 ghost use Rattle.verb_bytes.specs.Spelling.{record_bytes};
@@ -302,7 +302,7 @@ fn cycle_made<D: Disk>(
     ensures notes { OnErr result (desk.new.notes ≡ desk.old.notes) }
     ensures marks { OnErr result (desk.new.marks ≡ desk.old.marks) }
     ensures reads { (D.told journal.new.disk).failed_reads ≡ (D.told journal.old.disk).failed_reads }
-    ensures fed { OnOk result (Fed (D.told journal.old.disk) (D.told journal.new.disk)) }
+    ensures finds_memory { OnOk result (FindsMemory (D.told journal.old.disk) (D.told journal.new.disk)) }
     ensures wants { IfErr result (λ fault. CycleWants D.told journal.old.disk journal.new.disk fault) }
     ensures why { (disk : D) → ReadsAlone (D.told disk) (D.told journal.old.disk) → (D.told journal.old.disk).failed_reads ≡ (D.told disk).failed_reads
         → CyclesAs D.told (lasting desk.old (record journal.old { disk = disk })) at ask made
@@ -346,7 +346,7 @@ fn cycle_open<R: Threads + Sync, G: Gate, D: Disk, L: Ledger>(
         → OnErr result (steps.new ≤ steps.old + most_tried desk.old.kept ask due) }
     ensures few { OnErr result (steps.new ≤ steps.old + length desk.old.kept.timeline + length ask.inserts + length desk.old.kept.house.accounts) }
     ensures same { OnOk result ((D.told journal.new.disk).failed_reads ≡ (D.told journal.old.disk).failed_reads) }
-    ensures fed { OnOk result (Fed (D.told journal.old.disk) (D.told journal.new.disk)) }
+    ensures finds_memory { OnOk result (FindsMemory (D.told journal.old.disk) (D.told journal.new.disk)) }
     ensures wants { IfErr result (λ fault. CycleWants D.told journal.old.disk journal.new.disk fault) }
     ensures steps { OnOk result (steps.new ≤ steps.old + length desk.new.kept.timeline) }
 {
@@ -386,7 +386,7 @@ fn cycle_anew<R: Threads + Sync, G: Gate, D: Disk, L: Ledger>(
         → OnErr result (steps.new ≤ steps.old + most_tried desk.old.kept ask due) }
     ensures few { OnErr result (steps.new ≤ steps.old + length desk.old.kept.timeline + length ask.inserts + length desk.old.kept.house.accounts) }
     ensures same { OnOk result ((D.told journal.new.disk).failed_reads ≡ (D.told journal.old.disk).failed_reads) }
-    ensures fed { OnOk result (Fed (D.told journal.old.disk) (D.told journal.new.disk)) }
+    ensures finds_memory { OnOk result (FindsMemory (D.told journal.old.disk) (D.told journal.new.disk)) }
     ensures wants { IfErr result (λ fault. CycleWants D.told journal.old.disk journal.new.disk fault) }
     ensures steps { OnOk result (steps.new ≤ steps.old + length desk.new.kept.timeline) }
 {
@@ -405,13 +405,13 @@ impl<D: Disk> Desk<D> {
         self.desk.report(key)
     }
 
-    /// Does the cycle that is asked for, at a moment. A key that a cycle had is answered with that cycle's report, also on a
-    /// closed desk, and nothing changes. Else the cycle is performed beside the desk, its one record is sealed, and what it
-    /// leaves takes the place of what was kept. It begins with the newest snapshot at or before its point, and each delivery's text
-    /// behind that is read, once. The items behind the point are worked out level by level on workers, each of which passes the
-    /// gate before each item. At `Disk` what is kept is as before: either
-    /// a read failed, nothing changed, and a later call may succeed; or the desk is closed from then on, and the record may be
-    /// in the journal or not. In time that grows as the timeline, the mailboxes and these texts.
+    /// Does the cycle that is asked for, at a moment. A key that a cycle had is answered with that cycle's report, also on a closed
+    /// desk, and nothing changes. Else the cycle is performed beside the desk, its one record is sealed, and what it leaves takes
+    /// the place of what was kept. It begins with the newest snapshot at or before its point, and each delivery's text behind that
+    /// is read, once. The items behind the point are worked out level by level on workers, each of which passes the gate before
+    /// each item. At `Disk` what is kept is as before. Either a read failed, nothing changed, and a later call may succeed; or the
+    /// desk is closed from then on, and the record may be in the journal or not. In time that grows as the timeline, the mailboxes
+    /// and these texts.
     pub fn cycle<R: Threads + Sync, G: Gate, L: Ledger>(
         &mut self,
         rt: &R,
@@ -436,7 +436,7 @@ impl<D: Disk> Desk<D> {
         ensures few { OnErr result (steps.new ≤ steps.old + length self.old.kept.timeline + length ask.inserts + length self.old.kept.house.accounts) }
         ensures same { OnOk result (ReadsWell D.told self.old self.new) }
         // A write finds no memory only where the answer is want of memory, and none comes after it.
-        ensures fed { OnOk result (Fed (D.told self.old.disk) (D.told self.new.disk)) }
+        ensures finds_memory { OnOk result (FindsMemory (D.told self.old.disk) (D.told self.new.disk)) }
         ensures wants { IfErr result (λ fault. CycleWants D.told self.old.disk self.new.disk fault) }
         ensures steps { OnOk result (steps.new ≤ steps.old + length self.new.kept.timeline) }
         ensures once { (earlier : TheReport) → cycle_due self.old.kept at ask ≡ Repeats earlier → steps.new ≡ steps.old }

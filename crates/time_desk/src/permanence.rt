@@ -1,6 +1,6 @@
-//! What a mail client that keeps mail by UID may rely on, and what an operator who must account for every message: over all
-//! that a journal's records leave, with any number of cycles, withdrawals and reopenings. These functions do nothing: their contracts are
-//! laws of the definitions.
+//! What an IMAP client that keeps mail by UID may rely on, and what an operator who must account for every message. It is over all that a
+//! journal's records leave, with any number of cycles, withdrawals and reopenings. These functions do nothing: their contracts are laws
+//! of the definitions.
 ghost use Rattle.std.specs.Prelude.{◌≡◌, ◌≢◌, ℕ, List, ◌∷◌, ◌++◌, false, true, Some, IsSome};
 ghost use Rattle.std.specs.List.{list_any};
 ghost use Rattle.undo_base.specs.declared.keys.Key.{Key};
@@ -22,8 +22,8 @@ ghost use Rattle.desk_journal.specs.Records.{after_records, front, goes_on, is_w
 
 use mail_desk::laws::bodies_have_texts;
 
-/// What a journal's records leave is sound, each text has a rev below the next number, the texts of what the last cycle left to be
-/// withdrawn can come back, and the store is what the items in force leave, performed one after the other, from the base on: the
+/// What a journal's records leave is sound, and each text has a rev below the next number. The texts of what the last cycle left
+/// to be withdrawn can come back. The store is what the items in force leave, performed one after the other, from the base on: the
 /// opening store, where no record is of a past that was cut off.
 pub fn states_are_sound()
     ensures sound { (records : List JournalRecord) (kept : Kept) → state records ≡ Some kept → IsSound kept }
@@ -47,7 +47,7 @@ pub fn records_let_uids_last()
         after_records old more ≡ Some new → HasUndoneTexts new }
 {}
 
-/// A user, name, UIDVALIDITY and UID never name two messages or two contents (RFC 3501, section 2.3.1.1): not behind whatever
+/// A user, name, UIDVALIDITY and UID never name two messages or two contents (RFC 3501, section 2.3.1.1). They do not behind whatever
 /// more records, verbs, acts, cycles and withdrawals, and not of two desks that let UIDs last. Each message that is named has a text.
 /// A journal promises nothing before all is in it that it opens with: nobody serves it then.
 pub fn uids_name_one_message()
@@ -70,7 +70,7 @@ pub fn lost_stamps_stay_lost()
         stamp_at early id ≡ Some stamp → stamp_at middle id ≢ Some stamp → stamp_at late id ≢ Some stamp }
 {}
 
-/// Each message that an item of the timeline gave to a user has exactly one fate: in the store that is kept it lies in one
+/// Each message that an item of the timeline gave to a user has exactly one fate. In the store that is kept it lies in one
 /// mailbox of that user under one UID, or one later item took it out, an EXPUNGE, CLOSE, DELETE or Remove.
 pub fn each_message_has_one_fate()
     ensures { (records : List JournalRecord) (kept : Kept) (before later : List Item) (i : Item) (u : User) (key : Key) →
@@ -85,7 +85,7 @@ pub fn houses_stay()
 {}
 
 /// A delivery of the timeline gives its message to each user whom one of its local parts means, and one more to the postmaster
-/// where a local part means nobody, or the filter that decided discarded it; and each of these has exactly one fate.
+/// where a local part means nobody. Or the filter that decided discarded it. Each of these has exactly one fate.
 pub fn deliveries_arrive()
     ensures recipients { (records : List JournalRecord) (kept : Kept) (before later : List Item) (i : Item) (from : List ℕ) (to : List (List ℕ)) (text : List ℕ) (u : User) →
         state records ≡ Some kept → kept.timeline ≡ before ++ i ∷ later → i.deed ≡ Deliver from to text →

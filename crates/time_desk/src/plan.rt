@@ -14,7 +14,7 @@ ghost use Rattle.replay_crew.specs.Resolving.{AreResolvedFrom};
 ghost use Rattle.time_desk.specs.Planning.{BodiesCause, Plans, PlansNone, plan_at, plan_from, resolved, resolved_on};
 ghost use Rattle.time_desk.specs.Replaying.{reads_behind, some_deliver};
 ghost use Rattle.desk_journal.specs.Reading.{IsStill};
-ghost use Rattle.time_desk.specs.Serving.{Serves};
+ghost use Rattle.time_desk.specs.Serving.{CanBegin};
 ghost use Rattle.desk_journal.specs.Stored.{HoldsTexts, MarkedBefore, TextsNoted, store_at};
 ghost use Rattle.desk_journal.specs.Telling.{HoldsHeld, IsOnlyRead, IsPastRead};
 
@@ -146,7 +146,7 @@ fn plan_behind<B: Bodies>(
     place: usize,
 ) -> Result<Text, BodiesFault>
     requires place { place ≤ length desk.now.kept.timeline }
-    requires serves { Serves desk.now.kept place first.now }
+    requires serves { CanBegin desk.now.kept place first.now }
     requires texts { TellsAll (B.told bodies.old) desk.now.kept.timeline }
     ensures text { (B.told bodies.old).honest → first.now.store.store ≡ store_at desk.now.kept first.now.count → IfOk result (λ text. text ≡ plan_at desk.now.kept place) }
     ensures reads { Counts (B.told bodies.old) (B.told bodies.new) result }
@@ -167,7 +167,7 @@ fn plan_reading<D: Disk>(
 ) -> Result<Text, BodiesFault>
     requires noted { TextsNoted past.old.end desk.now.notes desk.now.kept }
     requires place { place ≤ length desk.now.kept.timeline }
-    requires serves { Serves desk.now.kept place first.now }
+    requires serves { CanBegin desk.now.kept place first.now }
     ensures text { HoldsHeld (D.told past.old.disk) desk.now ⊎ (some_deliver desk.now.kept.timeline ≡ false) → first.now.store.store ≡ store_at desk.now.kept first.now.count
         → IfOk result (λ text. text ≡ plan_at desk.now.kept place) }
     ensures due { IsErrOf result BodiesFault.Failed → IsTrue (some_deliver desk.now.kept.timeline) }

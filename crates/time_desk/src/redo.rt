@@ -1,5 +1,5 @@
-//! A repair in memory, beside the desk: of a cycle, of a trial of one, of a withdrawal, and of those of the journal that are performed
-//! again where a desk is started, one item after the other, since there are no workers.
+//! A repair in memory, beside the desk: of a cycle, of a trial of one, and of a withdrawal. It is also of those of the journal that
+//! are performed again where a desk is started, one item after the other, since there are no workers.
 ghost use Rattle.std.specs.Prelude.{◌≡◌, ◌<◌, ◌≤◌, ℕ, Some, IsTrue, IfOk, IfErr};
 ghost use Rattle.store_kept.specs.Kept.{undone_of};
 ghost use Rattle.repair_desk.specs.Repairs.{are_known};
@@ -7,7 +7,7 @@ ghost use Rattle.mail_cycle.specs.Tasks.{Begins};
 ghost use Rattle.mail_desk.specs.Remaking.{CanReplace, remade_as};
 ghost use Rattle.time_desk.specs.Cycling.{CanBeUndone, CanRework, IsFit, RedoesAlone, RedoesCycle, Reworks, after_rewound, asked_then};
 ghost use Rattle.time_desk.specs.Planning.{BodiesCause};
-ghost use Rattle.time_desk.specs.Serving.{IsNewest, Serves, unmarked};
+ghost use Rattle.time_desk.specs.Serving.{IsNewest, CanBegin, unmarked};
 ghost use Rattle.time_desk.specs.Withdrawing.{WithdrawsAlone, WithdrawsInSteps};
 ghost use Rattle.desk_journal.specs.Stored.{AreNoted, MarkedBefore, Renotes};
 ghost use Rattle.desk_journal.specs.Telling.{HoldsHeld, IsOnlyRead, IsPastRead};
@@ -73,7 +73,7 @@ fn prepared<D: Disk>(
 ) -> Result<Beginning, BodiesFault>
     requires marked { MarkedBefore past.old.end desk.now.marks }
     requires kept { due.now.kept ≡ unmarked desk.now.kept }
-    ensures serves { IfOk result (Serves desk.now.kept due.now.repair.place) }
+    ensures serves { IfOk result (CanBegin desk.now.kept due.now.repair.place) }
     ensures begins { IfOk result (Begins due.now) }
     ensures newest { HoldsHeld (D.told past.old.disk) desk.now → IfOk result (IsNewest desk.now.kept due.now.repair.place) }
     ensures cause { BodiesCause (D.told past.old.disk) (D.told past.new.disk) result }

@@ -480,7 +480,7 @@ fn has_bytes(
     }
 }
 
-/// Whether a snapshot of as many items as are in force is true: it holds the store that is kept, exactly where its bytes are those
+/// Whether a snapshot of as many items as are in force is true. It holds the store that is kept, exactly where its bytes are those
 /// of the snapshot of what is kept.
 fn is_true(
     alloc: Global,

@@ -4,7 +4,7 @@ ghost use Rattle.std.specs.List.{list_all, cons_option};
 ghost use Rattle.verb_core.specs.Live.{is_users, live};
 ghost use Rattle.verb_core.specs.Store.{is_known};
 ghost use Rattle.verb_bytes.specs.declared.journal.JournalRecord.TheVariants.{Verb};
-ghost use Rattle.seal_log.specs.Causes.{Fed};
+ghost use Rattle.seal_log.specs.Causes.{FindsMemory};
 ghost use Rattle.store_kept.specs.Kept.{store_of};
 ghost use Rattle.mail_desk.specs.Desk.{submitted};
 ghost use Rattle.mail_cycle.specs.Permanence.{UidsStay};
@@ -40,7 +40,7 @@ impl<D: Disk> Desk<D> {
         ensures why { IfErr result (λ fault. SubmitsNone D.told (live (store_of self.old.kept) self.old.kept.next at by ask self.old.kept.deep) self.old self.new fault) }
         ensures writes_none { WritesNone result self.old self.new }
         ensures reads { ReadsWell D.told self.old self.new }
-        ensures fed { OnOk result (Fed (D.told self.old.disk) (D.told self.new.disk)) }
+        ensures finds_memory { OnOk result (FindsMemory (D.told self.old.disk) (D.told self.new.disk)) }
         ensures wants { IfErr result (λ fault. SubmitWants D.told self.old.disk self.new.disk fault) }
         ensures closed { IsErrOf result SubmitFault.Closed ↔ IsTrue self.old.closed }
         ensures uids { UidsStay self.old.kept self.new.kept }

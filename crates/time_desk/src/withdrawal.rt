@@ -1,6 +1,6 @@
 //! What the operator takes back: the last cycle.
 ghost use Rattle.std.specs.Prelude.{◌≡◌, ◌+◌, ◌≤◌, false, None, Some, length, IsTrue, IfOk, OnOk, IfErr, OnErr};
-ghost use Rattle.seal_log.specs.Causes.{Fed};
+ghost use Rattle.seal_log.specs.Causes.{FindsMemory};
 ghost use Rattle.seal_log.specs.Settled.{ReadsAlone};
 ghost use Rattle.verb_bytes.specs.declared.journal.JournalRecord.TheVariants.{Withdraw};
 ghost use Rattle.verb_bytes.specs.Spelling.{record_bytes};
@@ -157,7 +157,7 @@ fn withdrawal_made<D: Disk>(
     ensures notes { OnErr result (desk.new.notes ≡ desk.old.notes) }
     ensures marks { OnErr result (desk.new.marks ≡ desk.old.marks) }
     ensures reads { (D.told journal.new.disk).failed_reads ≡ (D.told journal.old.disk).failed_reads }
-    ensures fed { OnOk result (Fed (D.told journal.old.disk) (D.told journal.new.disk)) }
+    ensures finds_memory { OnOk result (FindsMemory (D.told journal.old.disk) (D.told journal.new.disk)) }
     ensures wants { IfErr result (λ fault. WithdrawalWants D.told journal.old.disk journal.new.disk fault) }
     ensures why { (disk : D) → ReadsAlone (D.told disk) (D.told journal.old.disk) → (D.told journal.old.disk).failed_reads ≡ (D.told disk).failed_reads
         → IsWithdrawn desk.old.kept at of (HoldsTexts D.told (lasting desk.old (record journal.old { disk = disk }))) made
@@ -201,7 +201,7 @@ fn withdraw_open<R: Threads + Sync, G: Gate, D: Disk, L: Ledger>(
         → OnErr result (steps.new ≤ steps.old + most_begun desk.old.kept 0 (withdrawn_at desk.old.kept at last)) }
     ensures few { OnErr result (steps.new ≤ steps.old + length (items_asked desk.old.kept) + length desk.old.kept.house.accounts) }
     ensures same { OnOk result ((D.told journal.new.disk).failed_reads ≡ (D.told journal.old.disk).failed_reads) }
-    ensures fed { OnOk result (Fed (D.told journal.old.disk) (D.told journal.new.disk)) }
+    ensures finds_memory { OnOk result (FindsMemory (D.told journal.old.disk) (D.told journal.new.disk)) }
     ensures wants { IfErr result (λ fault. WithdrawalWants D.told journal.old.disk journal.new.disk fault) }
     ensures steps { OnOk result (steps.new ≤ steps.old + length desk.new.kept.timeline) }
 {
@@ -239,7 +239,7 @@ fn withdraw_anew<R: Threads + Sync, G: Gate, D: Disk, L: Ledger>(
         → OnErr result (steps.new ≤ steps.old + most_begun desk.old.kept 0 (withdrawn_at desk.old.kept at last)) }
     ensures few { OnErr result (steps.new ≤ steps.old + length (items_asked desk.old.kept) + length desk.old.kept.house.accounts) }
     ensures same { OnOk result ((D.told journal.new.disk).failed_reads ≡ (D.told journal.old.disk).failed_reads) }
-    ensures fed { OnOk result (Fed (D.told journal.old.disk) (D.told journal.new.disk)) }
+    ensures finds_memory { OnOk result (FindsMemory (D.told journal.old.disk) (D.told journal.new.disk)) }
     ensures wants { IfErr result (λ fault. WithdrawalWants D.told journal.old.disk journal.new.disk fault) }
     ensures steps { OnOk result (steps.new ≤ steps.old + length desk.new.kept.timeline) }
 {
@@ -253,7 +253,7 @@ impl<D: Disk> Desk<D> {
     /// Takes back the cycle of a number, at a moment, where it is the last of all cycles and withdrawals: the work since then stays.
     /// A key that a cycle or a withdrawal had is answered with its report, also on a closed desk, and nothing changes. Else the
     /// timeline without the cycle is performed beside the desk as a cycle is, with all that is said there of snapshots, reads,
-    /// workers and faults, its one record is sealed, and what it leaves takes the place of what was kept.
+    /// workers and faults. Its one record is sealed, and what it leaves takes the place of what was kept.
     pub fn withdraw<R: Threads + Sync, G: Gate, L: Ledger>(
         &mut self,
         rt: &R,
@@ -278,7 +278,7 @@ impl<D: Disk> Desk<D> {
         ensures few { OnErr result (steps.new ≤ steps.old + length (items_asked self.old.kept) + length self.old.kept.house.accounts) }
         ensures same { OnOk result (ReadsWell D.told self.old self.new) }
         // A write finds no memory only where the answer is want of memory, and none comes after it.
-        ensures fed { OnOk result (Fed (D.told self.old.disk) (D.told self.new.disk)) }
+        ensures finds_memory { OnOk result (FindsMemory (D.told self.old.disk) (D.told self.new.disk)) }
         ensures wants { IfErr result (λ fault. WithdrawalWants D.told self.old.disk self.new.disk fault) }
         ensures steps { OnOk result (steps.new ≤ steps.old + length self.new.kept.timeline) }
         ensures once { (earlier : TheReport) → withdraw_due self.old.kept at key.now of ≡ Repeats earlier → steps.new ≡ steps.old }

@@ -17,9 +17,9 @@ pub fn tests_are_even()
     ensures weaker { (xs ys : List Touch) → are_independent xs ys ≡ true → commute xs ys ≡ true }
 {}
 
-/// Two items that commute, performed in either order from any valid store, leave the same store, and each gets the same
-/// answer: with aims that are given, where at most one of them is an act on aliases or filters; and each with the aims
-/// that it finds on the store of its turn, where neither is.
+/// Two items that commute, performed in either order from any valid store, leave the same store, and each gets the same answer.
+/// They have aims that are given, where at most one of them is an act on aliases or filters. Or each has the aims that it finds
+/// on the store of its turn, where neither is.
 pub fn commuting_items_swap()
     ensures given { (to from : Sought) (s : MailStore) (i j : Item) → IsValid s → IsWellFormed s.house i → IsWellFormed s.house j → CanHave to i → CanHave from j →
         commute (touches_of (resolved to i)) (touches_of (resolved from j)) ≡ true → (sets_conf i.deed && sets_conf j.deed) ≡ false → Swap to from s i j }

@@ -7,10 +7,10 @@ use Rattle.undo_outside.specs.declared.fault.Fault.{Fault}
 use Rattle.undo_outside.specs.declared.fault.Fault.TheVariants.{Failed, NoMemory}
 use Rattle.undo_outside.specs.Calls.{Rose, RoseOnce}
 
--- What a disk tells: whether what it tells of its bytes is true; its length; what reads give; which images a crash now
--- may leave; the moment, a number that doesn't fall, and which images a crash at some moment since that one may have
--- left; how many reads and calls of `len` have failed, and how many writes and syncs; whether the last call did that found
--- memory; how many writes found no memory, and whether the last one did; and whether no call will fail.
+-- What a disk tells: whether what it tells of its bytes is true; its length; what reads give; and which images a crash now may
+-- leave. The moment is a number that doesn't fall; told is which images a crash at some moment since that one may have left. How
+-- many reads and calls of `len` have failed, how many writes and syncs, and whether the last call did that found memory. And how
+-- many writes found no memory, whether the last one did, and whether no call will fail.
 pub record DiskTold : Type 1 where
   pub honest : Type 0
   pub size : ℕ
@@ -21,12 +21,12 @@ pub record DiskTold : Type 1 where
   pub failed_reads : ℕ
   pub failed_writes : ℕ
   pub failed_last : Bool
-  pub starved : ℕ
-  pub starved_last : Bool
+  pub out_of_memory : ℕ
+  pub out_of_memory_last : Bool
   pub is_reliable : Bool
 
--- What an honest disk tells fits together: the length is that of what reads give, which is one of the images of now,
--- and the images of now are those since now, and among those since any earlier moment.
+-- What an honest disk tells fits together. The length is that of what reads give, which is one of the images of now. The images
+-- of now are those since now, and among those since any earlier moment.
 pub record IsHonest (disk : DiskTold) : Type 0 where
   pub size_of_content : disk.size ≡ length disk.content
   pub content_is_image : disk.images disk.content
@@ -37,8 +37,8 @@ pub record IsHonest (disk : DiskTold) : Type 0 where
 abbrev pub IsOverwritten : List ℕ → ℕ → List ℕ → List ℕ → Type 0
 IsOverwritten old place bytes new = new ≡ take place old ++ bytes ++ drop (place + length bytes) old
 
--- A write of so many bytes at this place, over a disk of this length, may leave new where there was old: it differs
--- only in the written range and past its end.
+-- A write of so many bytes at this place, over a disk of this length, may leave new where there was old. It differs only in the
+-- written range and past its end.
 pub record IsTorn (place count size : ℕ) (old new : List ℕ) : Type 0 where
   pub same : (i : ℕ) → i < length old → (i < place) ⊎ (place + count ≤ i) → slice_index new i ≡ slice_index old i
   pub no_shorter : length old ≤ length new
@@ -89,21 +89,21 @@ abbrev pub WriteFailed : DiskTold → DiskTold → Type 0
 WriteFailed old new = Rose old.failed_writes new.failed_writes × (new.failed_writes ≤ old.failed_writes + 1) × (new.failed_last ≡ true) × (old.is_reliable ≡ false)
 
 -- a write found no memory: the count of these rose by one, and no write came after it
-abbrev pub WriteStarved : DiskTold → DiskTold → Type 0
-WriteStarved old new = RoseOnce old.starved new.starved × (new.starved_last ≡ true)
+abbrev pub WriteOutOfMemory : DiskTold → DiskTold → Type 0
+WriteOutOfMemory old new = RoseOnce old.out_of_memory new.out_of_memory × (new.out_of_memory_last ≡ true)
 
 -- a write found no memory exactly where it says so
 pub record WriteWants {T : Type 0} (old new : DiskTold) (result : Result T Fault) : Type 0 where
-  pub ok : OnOk result (new.starved ≡ old.starved)
-  pub ok_last : OnOk result (new.starved_last ≡ false)
-  pub failed : IsErrOf result Failed → new.starved ≡ old.starved
-  pub failed_last : IsErrOf result Failed → new.starved_last ≡ false
-  pub no_memory : IsErrOf result NoMemory → WriteStarved old new
+  pub ok : OnOk result (new.out_of_memory ≡ old.out_of_memory)
+  pub ok_last : OnOk result (new.out_of_memory_last ≡ false)
+  pub failed : IsErrOf result Failed → new.out_of_memory ≡ old.out_of_memory
+  pub failed_last : IsErrOf result Failed → new.out_of_memory_last ≡ false
+  pub no_memory : IsErrOf result NoMemory → WriteOutOfMemory old new
 
 -- no write was made: what is told of those that found no memory is as before
 pub record WantsNone (old new : DiskTold) : Type 0 where
-  pub count : new.starved ≡ old.starved
-  pub last : new.starved_last ≡ old.starved_last
+  pub count : new.out_of_memory ≡ old.out_of_memory
+  pub last : new.out_of_memory_last ≡ old.out_of_memory_last
 
 -- a read answers `Failed` exactly where it failed, and no other count changes
 pub record ReadCause {T : Type 0} (old new : DiskTold) (result : Result T Failure) : Type 0 where

@@ -19,8 +19,8 @@ told_by disk = record {
   failed_reads = disk.failed_reads;
   failed_writes = disk.failed_writes;
   failed_last = disk.failed_last;
-  starved = disk.starving.calls;
-  starved_last = disk.starving.last;
+  out_of_memory = disk.memory_wants.calls;
+  out_of_memory_last = disk.memory_wants.last;
   is_reliable = length disk.failing.ordinals == 0;
 }
 
@@ -45,5 +45,5 @@ pub record IsNew (disk : MemDisk) (bytes failing : List ℕ) : Type 0 where
   pub since : (t : ℕ) (c : List ℕ) → (told_by disk).since t c → c ≡ bytes
   pub reads : disk.failed_reads ≡ 0
   pub writes : disk.failed_writes ≡ 0
-  pub starved : disk.starving ≡ record { calls = 0; last = false }
+  pub out_of_memory : disk.memory_wants ≡ record { calls = 0; last = false }
   pub listed : disk_calls disk ≡ record { ordinals = failing; calls = 0 }

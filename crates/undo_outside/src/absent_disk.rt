@@ -16,7 +16,7 @@ impl AbsentDisk {
     pub fn new() -> AbsentDisk
         ensures reads { (⟦<AbsentDisk as Disk>⟧.told result).failed_reads ≡ 0 }
         ensures writes { (⟦<AbsentDisk as Disk>⟧.told result).failed_writes ≡ 0 }
-        ensures starved { (⟦<AbsentDisk as Disk>⟧.told result).starved ≡ 0 }
+        ensures out_of_memory { (⟦<AbsentDisk as Disk>⟧.told result).out_of_memory ≡ 0 }
     {
         AbsentDisk {
             failed_reads: 0,
@@ -36,8 +36,8 @@ impl Disk for AbsentDisk {
       failed_reads = d.failed_reads;
       failed_writes = d.failed_writes;
       failed_last = true;
-      starved = 0;
-      starved_last = false;
+      out_of_memory = 0;
+      out_of_memory_last = false;
       is_reliable = false;
     } };
 

@@ -6,7 +6,7 @@ ghost use Rattle.undo_outside.specs.History.{IsMarked, Wrote, content_after, con
 ghost use Rattle.undo_outside.specs.MemDisk.{content_with, held, history, torn_after};
 
 use crate::failing::Failing;
-use crate::starving::Starving;
+use crate::memory_wants::MemoryWants;
 use crate::{Disk, DiskFault, Failed, Fault};
 use std::alloc::Global;
 use undo_base::{NoMemory, Numbers, Text};
@@ -31,7 +31,7 @@ pub struct MemDisk {
     failed_reads: u64,
     failed_writes: u64,
     failed_last: bool,
-    starving: Starving,
+    memory_wants: MemoryWants,
     ghost kept: { held start latest ≡ content_after start (history writes.items) },
 }
 
@@ -51,7 +51,7 @@ impl MemDisk {
             failed_reads: 0,
             failed_writes: 0,
             failed_last: false,
-            starving: Starving::new(),
+            memory_wants: MemoryWants::new(),
         }
     }
 
@@ -289,11 +289,11 @@ impl Disk for MemDisk {
                 Ok(()) => {
                     count_failure(&mut self.failed_writes);
                     self.failed_last = true;
-                    self.starving.pass();
+                    self.memory_wants.pass();
                     Err(Fault::Failed)
                 }
                 Err(NoMemory) => {
-                    self.starving.count();
+                    self.memory_wants.count();
                     Err(Fault::NoMemory)
                 }
             };
@@ -308,11 +308,11 @@ impl Disk for MemDisk {
         ) {
             Ok(()) => {
                 self.failed_last = false;
-                self.starving.pass();
+                self.memory_wants.pass();
                 Ok(())
             }
             Err(NoMemory) => {
-                self.starving.count();
+                self.memory_wants.count();
                 Err(Fault::NoMemory)
             }
         }

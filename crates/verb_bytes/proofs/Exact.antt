@@ -1,5 +1,5 @@
--- What is spelled is read back, whatever follows it; what is read was spelled; and where reading stops, the first fields of
--- some value end, and none goes on: for each way of reading, once.
+-- What is spelled is read back, whatever follows it; what is read was spelled. Where reading stops, the first fields of some
+-- value end, and none goes on. It is said for each way of reading, once.
 use Rattle.std.proofs.Common.{◌≡◌, ℕ, zero, suc, ◌+◌, ◌<◌, ◌≤◌, Bool, true, false, ◌&&◌, List, [], ◌∷◌, ◌++◌, length, Option, Some, None, Result, Ok, Err, refl, sym, ap, subst, ◌∙◌, append_assoc, arith, inl, inr, ◌⊎◌}
 use Rattle.std.specs.List.{flat_map}
 use Rattle.std.proofs.lemmas.Bool.{and_parts, and_from}

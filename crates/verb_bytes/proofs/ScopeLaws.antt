@@ -1,5 +1,5 @@
--- Filters with their scopes are read from their fields, and only from these; and lists of filters of which some looks at less
--- than the whole text are read only from such lists, and stop only behind the first fields of one.
+-- Filters with their scopes are read from their fields, and only from these. Lists of filters of which some looks at less than
+-- the whole text are read only from such lists, and stop only behind the first fields of one.
 use Rattle.std.proofs.Common.{◌≡◌, ℕ, suc, ◌≤◌, Bool, true, false, ◌&&◌, not, List, [], ◌∷◌, ◌++◌, length, Option, None, Result, Ok, Err, refl, sym, ap, subst, ◌∙◌, append_assoc, arith, inl, inr, ◌⊎◌}
 use Rattle.std.specs.Prelude.{if◌then◌else◌, nat_le}
 use Rattle.std.specs.List.{flat_map}

@@ -25,8 +25,8 @@ pub record LacksScopes (bytes : List ℕ) (place : ℕ) : Type 0 where
   pub begins : bytes ≡ bytes_of (before_filters items aliases & any_list_fields (scoped_fields 0) filters) ++ rest
   pub ends : length (bytes_of (before_filters items aliases)) ≡ place
 
--- the bytes begin with the first fields of a record that has a spelling, these end at this place, and no list that begins
--- before it is out of its range as a whole
+-- The bytes begin with the first fields of a record that has a spelling. These end at this place, and no list that begins before
+-- it is out of its range as a whole.
 pub record Reaches (bytes : List ℕ) (place : ℕ) : Type 0 where
   pub what : JournalRecord
   pub has_spelling : HasSpelling what
@@ -38,8 +38,8 @@ pub record Reaches (bytes : List ℕ) (place : ℕ) : Type 0 where
   pub ends : length (bytes_of front) ≡ place
   pub lists : (list : ℕ) → LacksScopes bytes list → place ≤ list
 
--- the bytes spell no record, and no record's first fields reach further in them than this place: there begins the first
--- field that is cut or out of its range, or ends the last field, and bytes follow
+-- The bytes spell no record, and no record's first fields reach further in them than this place. There begins the first field
+-- that is cut or out of its range, or ends the last field, and bytes follow.
 pub record IsRefusedAt (bytes : List ℕ) (place : ℕ) : Type 0 where
   pub spells_none : (what : JournalRecord) → Spells what bytes → ⊥
   pub reached : Reaches bytes place

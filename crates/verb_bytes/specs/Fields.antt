@@ -129,11 +129,9 @@ any_list_fields fields xs = list_fields most_of_four fields xs
 
 -- ---- the byte that says what follows
 
--- the kind of a record
 abbrev pub record_kind : ℕ → List Field
 record_kind kind = byte_field 0 LAST_RECORD kind
 
--- the kind of an act
 abbrev pub act_kind : ℕ → List Field
 act_kind kind = byte_field 1 LAST_ACT kind
 

@@ -20,8 +20,8 @@ pub struct CycleAsk {
 }
 
 /// One record. A `Verb` is a user's item, with rev 0; from an `Upgrade` on names may have superiors; a `Withdraw` takes back the
-/// cycle of the number `of`. Where the past was cut off, a `Base` is the store before the first item, the `Text`s are of its
-/// messages, and each `Kept` is an item as it was when the past was cut off, whoever did it.
+/// cycle of the number `of`. Where the past was cut off, a `Base` is the store before the first item, and the `Text`s are of its
+/// messages. Each `Kept` is an item as it was when the past was cut off, whoever did it.
 #[derive(Drop)]
 pub enum JournalRecord {
     Format(House, Conf),

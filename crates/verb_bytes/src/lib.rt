@@ -1,14 +1,13 @@
 //! Records of the journal, and their one spelling.
 //!
-//! `journal` is what is recorded; `encode` and `decode` write and read it. Below them `part` is what stands in lists,
-//! `simple`, `settings`, `mailboxes`, `acts`, `deeds`, `shown`, `items` and `reports` are the parts, `kinds` the byte that says
-//! which record, act or deed follows, and `write` and `cursor` the fields. Of `specs/`, Fields, Spelling, Writing and
-//! Decoding say the fields of each record, what is written for it and what bytes are read as; Readers and Reading, how
-//! the parts read. `places` tells where the texts of messages lie in a record's bytes, which Places says by the fields
-//! before each. `laws` says that this is one spelling, and that each text lies at its place.
-//! What carries the crate: `spell_record` gives the bytes of the record's fields, or answers that one of them is out of its
-//! range; and `decode_record` answers the record that the bytes spell, or the place where they are refused. `text_places`
-//! answers where its texts lie.
+//! `journal` is what is recorded; `encode` and `decode` write and read it. Below them `part` is what stands in lists; `simple`,
+//! `settings`, `mailboxes`, `acts`, `deeds`, `shown`, `items` and `reports` are the parts. `kinds` has the byte that says which
+//! record, act or deed follows, and `write` and `cursor` the fields. Of `specs/`, Fields, Spelling, Writing and Decoding say the
+//! fields of each record, what is written for it and what bytes are read as; Readers and Reading, how the parts read. `places`
+//! tells where the texts of messages lie in a record's bytes, which Places says by the fields before each. `laws` says that this
+//! is one spelling, and that each text lies at its place. What carries the crate: `spell_record` gives the bytes of the record's
+//! fields, or answers that one of them is out of its range. `decode_record` answers the record that the bytes spell, or the place
+//! where they are refused. `text_places` answers where its texts lie.
 #![tactic(auto)]
 
 mod acts;

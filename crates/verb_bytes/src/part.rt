@@ -22,7 +22,6 @@ pub(crate) trait Part: Sized + Drop {
     fn put(&self, out: &mut Text) -> Result<(), Unwritten>
         ensures { Puts (fields self.now) out.old out.new result };
 
-    /// Reads it.
     fn read(alloc: Global, cursor: &mut Cursor<'_>) -> Result<Self, Stop>
         ensures { Gives reader cursor.old.rest.now cursor.new.rest.now result };
 }

@@ -386,8 +386,8 @@ fn body_text_places(alloc: Global, text: &Text) -> Result<TextPlaces, NoMemory>
     Ok(places)
 }
 
-/// Where the texts of messages lie in the bytes of a record, in order: those of a delivery, of an APPEND and of a Give,
-/// a cycle's new texts, the text of a body, and that of an item that is kept, a notice's too. Places that four bytes can't say find no memory.
+/// Where the texts of messages lie in the bytes of a record, in order. They are those of a delivery, of an APPEND and of a Give, and a cycle's
+/// new texts. And the text of a body, and that of an item that is kept, a notice's too. Places that four bytes can't say find no memory.
 pub fn text_places(alloc: Global, what: &JournalRecord) -> Result<TextPlaces, NoMemory>
     requires { HasSpelling what.now }
     ensures { IfOk result (λ places. places ≡ text_places_of what.now) }

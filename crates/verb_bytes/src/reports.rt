@@ -58,7 +58,6 @@ fn verb_of(kind: u8, cursor: &mut Cursor<'_>) -> Result<Verb, Stop>
     }
 }
 
-/// Reads a verb.
 fn read_verb(cursor: &mut Cursor<'_>) -> Result<Verb, Stop>
     ensures { Gives verb_at cursor.old.rest.now cursor.new.rest.now result }
 {
@@ -101,7 +100,6 @@ fn reason_of(byte: u8, cursor: &mut Cursor<'_>) -> Result<Reason, Stop>
     }
 }
 
-/// Reads a reason.
 fn read_reason(cursor: &mut Cursor<'_>) -> Result<Reason, Stop>
     ensures { Gives reason_at cursor.old.rest.now cursor.new.rest.now result }
 {

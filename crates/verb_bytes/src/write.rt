@@ -19,13 +19,11 @@ pub(crate) const MOST_TO: u32 = MOST_RECIPIENTS as u32;
 /// The most accounts of a house.
 pub(crate) const MOST_ACCOUNTS: u32 = MOST_USERS as u32;
 
-/// The last user.
 pub(crate) const LAST_USER: u8 = 199;
 
 /// Nobody, in the place of a user.
 pub(crate) const NOBODY: u8 = 255;
 
-/// All flags.
 pub(crate) const ALL_FLAGS: u8 = 31;
 
 /// Why a record is not written.

@@ -88,7 +88,6 @@ mailbox next entries = Some (record { next = next; entries = entries })
 abbrev fetch_first : ℕ → ℕ → Item
 fetch_first n k = own n ann (Fetch inbox (key k ∷ []) false false)
 
--- a flag is added
 a_flag_is_added : box_after (send 2 (codes "ann" ∷ []) (codes "x") ∷ own 3 ann (Store inbox (key 2 ∷ []) Add (record no_flags { flagged = true })) ∷ []) ann inbox ≡ mailbox 2 (lying 1 2 (record no_flags { flagged = true }) ∷ [])
 a_flag_is_added = refl
 

@@ -342,8 +342,8 @@ the_sender = refl
 a_recipient : map (meets scope.Recipient) (codes "tea" ∷ codes "ann" ∷ codes "annteam" ∷ codes "joe" ∷ []) ≡ true ∷ true ∷ false ∷ false ∷ []
 a_recipient = refl
 
--- a filter of a header field discards what has the needle there, and not what has it elsewhere; it files into a mailbox below
--- another where that is there, and else into INBOX
+-- A filter of a header field discards what has the needle there, and not what has it elsewhere. It files into a mailbox below
+-- another where that is there, and else into INBOX.
 abbrev filtered : Option (List ℕ) → List Item → List Item
 filtered file more = none 2 (Acts (SetFilter (record { id = codes "f"; needle = codes "offer"; file = file; scope = scope.Field (codes "Subject") }))) ∷ more
 

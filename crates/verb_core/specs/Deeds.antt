@@ -8,7 +8,6 @@ use Rattle.verb_core.specs.declared.item.Item.{Item}
 use Rattle.verb_core.specs.declared.item.Shown.TheVariants.{Nothing}
 use Rattle.verb_core.specs.declared.mailbox.Body.{Body}
 
--- the word of an act
 abbrev pub act_word : Act → List ℕ
 act_word (SetAlias local users) = codes "ALIAS"
 act_word (DropAlias local) = codes "UNALIAS"
@@ -17,7 +16,6 @@ act_word (DropFilter id) = codes "UNFILTER"
 act_word (Remove user mailbox key) = codes "REMOVE"
 act_word (Give user mailbox text) = codes "GIVE"
 
--- the word of a deed
 abbrev pub deed_word : Deed → List ℕ
 deed_word (deed.Deliver from to text) = codes "DELIVER"
 deed_word (deed.Append mailbox flags moment text) = codes "APPEND"
@@ -75,7 +73,6 @@ with_text text (deed.Act (Give user mailbox _)) = deed.Act (Give user mailbox te
 with_text text (deed.Notice user _) = deed.Notice user text
 with_text text d = d
 
--- the item of an act
 abbrev pub act_item : ℕ → ℕ → Act → Item
 act_item number at act = record { number = number; at = at; by = None; rev = 0; deed = deed.Act act; shown = Nothing }
 

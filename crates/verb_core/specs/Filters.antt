@@ -25,8 +25,8 @@ abbrev pub occurs : List ℕ → List ℕ → Bool
 occurs needle [] = is_empty needle
 occurs needle (b ∷ bs) = starts_with nat_eq (b ∷ bs) needle || occurs needle bs
 
--- whether the needle occurs in what the scope looks at: the stored text, the value of a field of that name (which ignores
--- case), the reverse path, or one of the local parts
+-- Whether the needle occurs in what the scope looks at: the stored text, the value of a field of that name (which ignores case),
+-- the reverse path, or a local part.
 abbrev pub occurs_within : Scope → List ℕ → List ℕ → List (List ℕ) → List ℕ → Bool
 occurs_within Body needle from to text = occurs needle text
 occurs_within (Field name) needle from to text = list_any (λ field. is_named name field && occurs needle (value_of field)) (fields_of text)

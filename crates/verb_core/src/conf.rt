@@ -51,8 +51,8 @@ pub struct Alias {
     pub users: Users,
 }
 
-/// What a filter looks at: the whole text as it is stored; the values of the header fields of that name, which ignores case
-/// (RFC 5322, 2.2); the reverse path; or the local parts.
+/// What a filter looks at: the whole text as it is stored; the values of the header fields of that name, which ignores case (RFC
+/// 5322, 2.2); the reverse path. Or the local parts.
 #[derive(Debug, Drop, PartialEq, Eq)]
 pub enum Scope {
     Body,

@@ -1,9 +1,10 @@
 //! The verbs of the mail store: its parts, its items, and what each item does.
 //!
-//! `mailbox`, `mail` and `conf` are the parts of a store, `item` what is recorded, `deed` what a deed has, `actor` whose
-//! mailboxes an item acts on, `fixed` the names that are always there and those of new mailboxes, `superiors` their hierarchy, `flags` those that a STORE leaves, `ask` what is
-//! asked and refused, `bodies` where texts are read, `copy` and `copy_deeds` the copies, `recipients` whom a local part
-//! means; `threads` says what may cross threads, and `laws` what holds of every store and item. `specs/` says what each item does to the store, what it answers, and what is kept of a store in use.
+//! `mailbox`, `mail` and `conf` are the parts of a store, `item` what is recorded, `deed` what a deed has, `actor` whose mailboxes an item acts on.
+//! `fixed` has the names that are always there and those of new mailboxes, `superiors` their hierarchy, `flags` those that a STORE leaves. `ask` is
+//! what is asked and refused, `bodies` where texts are read, `copy` and `copy_deeds` the copies, `recipients` whom a local part means. `threads` says
+//! what may cross threads, and `laws` what holds of every store and item. `specs/` says what each item does to the store, what it answers, and what
+//! is kept of a store in use.
 #![tactic(auto)]
 
 mod actor;

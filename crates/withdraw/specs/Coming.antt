@@ -23,8 +23,8 @@ IsSameIf i now = now.number ≡ i.number → IsSame i now
 abbrev pub AreSame : List Item → List Item → Type 0
 AreSame before present = AllByRecursion (λ (i : Item). AllByRecursion (IsSameIf i) present) before
 
--- What a cycle left can come back among the items in force: the timeline before it was one; its items are older than the cycle, and
--- those behind the first `placed` are not; and those that are there still are the same.
+-- What a cycle left can come back among the items in force. The timeline before it was one; its items are older than the cycle, and
+-- those behind the first `placed` are not. Those that are there still are the same.
 pub record CanComeBack (house : House) (present : List Item) (last : UndoneBehind) : Type 0 where
   pub position : last.position ≤ last.placed
   pub placed : last.placed ≤ length present

@@ -21,8 +21,8 @@ abbrev pub showing : Item → Option Shown → Item
 showing i None = i
 showing i (Some shown) = record i { shown = shown }
 
--- an item as it is shown at present: one that is there shows what it shows there, with its own text and rev, and one that is not
--- there shows what it had shown
+-- An item as it is shown at present. One that is there shows what it shows there, with its own text and rev; one that is not
+-- there shows what it had shown.
 abbrev pub as_shown : List Item → Item → Item
 as_shown present i = showing i (shown_among present i.number)
 

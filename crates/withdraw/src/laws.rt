@@ -12,8 +12,8 @@ ghost use Rattle.withdraw.specs.declared.undone.UndoneBehind.{UndoneBehind};
 ghost use Rattle.withdraw.specs.Coming.{CanComeBack, TextsComeBack};
 ghost use Rattle.withdraw.specs.Unediting.{as_shown, before_of, item_of, unedited, unedited_behind, unshown, whole_of};
 
-/// All that stood before the cycle is back in its order, each item with its own deed, text and rev, and behind it stand the items
-/// that came after the cycle's own, as they are. So the acts that came in are gone. What went shows what it had shown, and what is
+/// All that stood before the cycle is back in its order, each item with its own deed, text and rev. Behind it stand the items that
+/// came after the cycle's own, as they are. So the acts that came in are gone. What went shows what it had shown, and what is
 /// there at present shows what it shows there.
 pub fn all_comes_back()
     ensures items { (present : List Item) (last : Undone) →

@@ -1,8 +1,8 @@
 //! What the last cycle left to be withdrawn.
 use stored_items::StoredItems;
 
-/// What is known of a cycle: its number, the timeline just before it, how many of these items stand through its point, and how
-/// many items stood in the new timeline before its notices.
+/// What is known of a cycle: its number, and the timeline just before it. And how many of these items stand through its point,
+/// and how many items stood in the new timeline before its notices.
 #[derive(Drop)]
 pub struct Undone {
     pub cycle: u32,

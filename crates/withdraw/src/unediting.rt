@@ -44,9 +44,9 @@ fn push_shown(
     Ok(())
 }
 
-/// The timeline without the last cycle, of the present one: the items before the cycle, each with its own text and rev, where
-/// those that are there at present show what they show there; and behind them those that came after the cycle's own, its notices
-/// first. In time that grows as both lists times the logarithm of the present one.
+/// The timeline without the last cycle, of the present one. First stand the items before the cycle, each with its own text and
+/// rev, where those that are there at present show what they show there. Behind them stand those that came after the cycle's own,
+/// its notices first. In time that grows as both lists times the logarithm of the present one.
 pub fn unedit(alloc: Global, present: &StoredItems, last: &Undone) -> Result<StoredItems, NoMemory>
     ensures { IfOk result (λ items. items ≡ unedited present.now last.now) }
 {

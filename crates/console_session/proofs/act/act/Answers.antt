@@ -11,7 +11,7 @@ returns-in-Ok g c =
     let says = c.tell_only.ensures (number_data c.in-Ok.number) c.number_json.ensures in
     act_done g.D.Disk.told c.args.at c.args.asked c.args.desk.now c.act.new.self c.tell_only.result
     (subst (λ (n : ℕ). TellsOnly (answer 200 (number_data n)) Closes c.tell_only.result) c.in-Ok.ensures.number says)
-    c.in-Ok.ensures.ok c.in-Ok.ensures.sealed c.act.ensures.reads c.in-Ok.ensures.fed
+    c.in-Ok.ensures.ok c.in-Ok.ensures.sealed c.act.ensures.reads c.in-Ok.ensures.finds_memory
 
 pub returns-in-Err : goal.returns-in-Err
 returns-in-Err g c =

@@ -5,7 +5,8 @@ use Rattle.desk_journal.specs.Stored.{is_recorded}
 use Rattle.desk_journal.specs.Telling.{HoldsHeld, IsPastRead, with_memory}
 use Rattle.desk_journal.proofs.texts.texts_at.Given as goal
 
--- the disk was only read, where a record has the text of one of the bodies so far, and the texts are those of these bodies, as are those in memory in any case
+-- The disk was only read, where a record has the text of one of the bodies so far. The texts are those of these bodies, as are those in memory in any
+-- case.
 abbrev pub invariant-loop-body : goal.invariant-loop-body
 invariant-loop-body g l = record {
   still : IsPastRead g.D.Disk.told l.fn.past l.past;

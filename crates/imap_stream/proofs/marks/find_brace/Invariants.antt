@@ -1,6 +1,6 @@
 use Rattle.std.proofs.Common.{◌≡◌, ◌+◌, ◌<◌, length, drop, option_map, IfSome}
 use Rattle.std.specs.Option.{option_or}
-use Rattle.imap_stream.specs.Marks.{last_brace}
+use Rattle.imap_stream.specs.LiteralMarks.{last_brace}
 use Rattle.imap_stream.proofs.marks.find_brace.Given as goal
 
 abbrev pub invariant-loop-place : goal.invariant-loop-place

@@ -1,5 +1,5 @@
 use Rattle.std.proofs.Common.{◌≡◌, ◌++◌, take, drop, option_map}
-use Rattle.imap_stream.specs.Marks.{before_space}
+use Rattle.imap_stream.specs.LiteralMarks.{before_space}
 use Rattle.imap_stream.proofs.marks.first_word.Given as goal
 
 abbrev pub invariant-loop-place : goal.invariant-loop-place

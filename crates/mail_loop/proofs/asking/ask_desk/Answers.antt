@@ -18,19 +18,19 @@ pub returns-then-is_err-clause-did : goal.returns-then-is_err-clause-did
 returns-then-is_err-clause-did g c =
     let submit = c.submit-outcome in
     did_submit g.D.Disk.told c.args.at c.args.by c.args.ask c.args.desk.now submit.new.self submit.result c.requires.sealed submit.ensures.reads
-    submit.ensures.ok submit.ensures.sealed submit.ensures.err submit.ensures.why submit.ensures.fed submit.ensures.wants
+    submit.ensures.ok submit.ensures.sealed submit.ensures.err submit.ensures.why submit.ensures.finds_memory submit.ensures.wants
 
 pub returns-else-is_err-clause-did : goal.returns-else-is_err-clause-did
 returns-else-is_err-clause-did g c =
     let submit = c.submit-outcome in
     did_submit g.D.Disk.told c.args.at c.args.by c.args.ask c.args.desk.now submit.new.self submit.result c.requires.sealed submit.ensures.reads
-    submit.ensures.ok submit.ensures.sealed submit.ensures.err submit.ensures.why submit.ensures.fed submit.ensures.wants
+    submit.ensures.ok submit.ensures.sealed submit.ensures.err submit.ensures.why submit.ensures.finds_memory submit.ensures.wants
 
 pub returns-then-is_err-clause-noted : goal.returns-then-is_err-clause-noted
 returns-then-is_err-clause-noted g c =
     let submit = c.submit-outcome in
     let did = did_submit g.D.Disk.told c.args.at c.args.by c.args.ask c.args.desk.now submit.new.self submit.result c.requires.sealed submit.ensures.reads
-    submit.ensures.ok submit.ensures.sealed submit.ensures.err submit.ensures.why submit.ensures.fed submit.ensures.wants in
+    submit.ensures.ok submit.ensures.sealed submit.ensures.err submit.ensures.why submit.ensures.finds_memory submit.ensures.wants in
     let noted = c.in_default.ensures.ok ∙ ap (λ (ids : List BoxId). c.args.reply.now.gone ++ taken_by c.args.by c.args.ask ids) (ap (map (λ (r : BoxId × ℕ). r.0)) c.as_slice.ensures ∙ c.stamps.ensures.named) in
     ap (λ (ids : List BoxId). record c.args.reply.now { gone = ids })
     (noted_unless_done (HaveSealed g.D.Disk.told c.args.desk.now submit.new.self) c.args.desk.now.kept submit.new.self.kept c.args.at c.args.by c.args.ask submit.result
@@ -40,7 +40,7 @@ pub returns-else-is_err-clause-noted : goal.returns-else-is_err-clause-noted
 returns-else-is_err-clause-noted g c =
     let submit = c.submit-outcome in
     let did = did_submit g.D.Disk.told c.args.at c.args.by c.args.ask c.args.desk.now submit.new.self submit.result c.requires.sealed submit.ensures.reads
-    submit.ensures.ok submit.ensures.sealed submit.ensures.err submit.ensures.why submit.ensures.fed submit.ensures.wants in
+    submit.ensures.ok submit.ensures.sealed submit.ensures.err submit.ensures.why submit.ensures.finds_memory submit.ensures.wants in
     let noted = c.in_default.ensures.ok ∙ ap (λ (ids : List BoxId). c.args.reply.now.gone ++ taken_by c.args.by c.args.ask ids) (ap (map (λ (r : BoxId × ℕ). r.0)) c.as_slice.ensures ∙ c.stamps.ensures.named) in
     ap (λ (ids : List BoxId). record c.args.reply.now { gone = ids })
     (noted_where_done (HaveSealed g.D.Disk.told c.args.desk.now submit.new.self) c.args.desk.now.kept submit.new.self.kept c.args.at c.args.by c.args.ask submit.result

@@ -1,6 +1,6 @@
 use Rattle.std.proofs.Common.{None, Ok, [], true}
 use Rattle.mail_loop.specs.State.{Pop}
-use Rattle.mail_loop.specs.Counts.{none_counted}
+use Rattle.mail_loop.specs.TurnCounts.{none_counted}
 use Rattle.mail_loop.specs.Asked.{HaveSealed}
 use Rattle.mail_loop.proofs.PopTurns.{users_told}
 use Rattle.mail_loop.proofs.Sealed.{unsealed}

@@ -3,7 +3,7 @@ use Rattle.imap_stream.specs.Commands.{Heard}
 use Rattle.mail_loop.specs.State.{Imap, State}
 use Rattle.mail_loop.specs.Turns.{hears_commands, hears_seat}
 use Rattle.mail_loop.specs.Took.{TellsTurns}
-use Rattle.mail_loop.specs.Counts.{none_counted}
+use Rattle.mail_loop.specs.TurnCounts.{none_counted}
 use Rattle.mail_loop.specs.Asked.{HaveSealed}
 use Rattle.mail_loop.proofs.Sealed.{unsealed}
 use Rattle.mail_loop.proofs.Stretch.{going, heard_alone, unfed_alone}

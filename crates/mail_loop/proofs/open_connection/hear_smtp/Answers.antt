@@ -2,7 +2,7 @@ use Rattle.std.proofs.Common.{List, None, Ok, [], false, subst, true, ℕ}
 use Rattle.mail_loop.specs.State.{Smtp, State}
 use Rattle.mail_loop.specs.Turns.{hears_lines, hears_seat}
 use Rattle.mail_loop.specs.Took.{TellsTurns}
-use Rattle.mail_loop.specs.Counts.{none_counted}
+use Rattle.mail_loop.specs.TurnCounts.{none_counted}
 use Rattle.mail_loop.specs.Asked.{HaveSealed}
 use Rattle.mail_loop.proofs.Sealed.{unsealed}
 use Rattle.mail_loop.proofs.Stretch.{going, heard_alone, unfed_alone}

@@ -5,7 +5,7 @@ use Rattle.imap_stream.specs.declared.next.Next.TheVariants.{NotYet}
 use Rattle.mail_loop.specs.declared.reply.Reply.{Reply}
 use Rattle.imap_session.specs.Dialog.{is_view_current}
 use Rattle.store_kept.specs.Kept.{store_of}
-use Rattle.mail_loop.specs.Counts.{both_counted, none_counted}
+use Rattle.mail_loop.specs.TurnCounts.{both_counted, none_counted}
 use Rattle.mail_loop.specs.Asked.{HaveSealed}
 use Rattle.mail_loop.specs.State.{Imap, beside}
 use Rattle.mail_loop.proofs.Nexts.{is_emptied, none_taken, some_last, taken}

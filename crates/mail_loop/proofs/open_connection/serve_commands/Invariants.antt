@@ -3,7 +3,7 @@ use Rattle.imap_stream.specs.Commands.{emptied}
 use Rattle.imap_stream.specs.declared.next.Next.TheVariants.{NotYet}
 use Rattle.imap_session.specs.Dialog.{is_at_home, is_free, is_view_current}
 use Rattle.store_kept.specs.Kept.{store_of}
-use Rattle.mail_loop.specs.Counts.{Counts}
+use Rattle.mail_loop.specs.TurnCounts.{TurnCounts}
 use Rattle.mail_loop.specs.Asked.{HaveSealed}
 use Rattle.mail_loop.specs.State.{Seats}
 use Rattle.mail_loop.proofs.Stretch.{SoFar}
@@ -21,7 +21,7 @@ invariant-loop-next g l = record {
   house : l.desk.kept.house ≡ l.fn.desk.kept.house;
   rest : emptied l.stream ≡ emptied l.fn.stream;
   open' : l.desk.closed ≡ false;
-  far : (counts : Counts) × HaveSealed g.D.Disk.told l.fn.desk l.desk [] counts × ((seats : Seats) → SoFar (next_at l.at l.conn) seats l.fn.desk.kept l.fn.dialog (l.fn.stream.said ++ NotYet ∷ []) l.reply counts l.desk.kept l.dialog (l.stream.said ++ NotYet ∷ []));
+  far : (counts : TurnCounts) × HaveSealed g.D.Disk.told l.fn.desk l.desk [] counts × ((seats : Seats) → SoFar (next_at l.at l.conn) seats l.fn.desk.kept l.fn.dialog (l.fn.stream.said ++ NotYet ∷ []) l.reply counts l.desk.kept l.dialog (l.stream.said ++ NotYet ∷ []));
 }
 
 abbrev pub decreases-loop-next : goal.decreases-loop-next

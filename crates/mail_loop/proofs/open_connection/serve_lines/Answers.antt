@@ -3,7 +3,7 @@ use Rattle.smtp_lines.specs.declared.line.SmtpLine.{SmtpLine}
 use Rattle.smtp_lines.specs.Lines.{rest_of}
 use Rattle.smtp_lines.specs.Line.{smtp_lines_of}
 use Rattle.mail_loop.specs.declared.reply.Reply.{Reply}
-use Rattle.mail_loop.specs.Counts.{both_counted, none_counted}
+use Rattle.mail_loop.specs.TurnCounts.{both_counted, none_counted}
 use Rattle.mail_loop.specs.Asked.{HaveSealed}
 use Rattle.mail_loop.specs.State.{Smtp, beside}
 use Rattle.mail_loop.proofs.Sealed.{chained, none_unsealed, still_open, unsealed}

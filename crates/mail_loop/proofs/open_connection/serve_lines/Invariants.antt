@@ -2,7 +2,7 @@ use Rattle.std.proofs.Common.{◌≡◌, [], false, true, length}
 use Rattle.smtp_lines.specs.Lines.{rest_of}
 use Rattle.smtp_lines.specs.Line.{smtp_lines_of}
 use Rattle.mail_loop.specs.SmtpTurn.{is_free}
-use Rattle.mail_loop.specs.Counts.{Counts}
+use Rattle.mail_loop.specs.TurnCounts.{TurnCounts}
 use Rattle.mail_loop.specs.Asked.{HaveSealed}
 use Rattle.mail_loop.specs.State.{Seats}
 use Rattle.mail_loop.proofs.Stretch.{SoFar}
@@ -18,7 +18,7 @@ invariant-loop-line g l = record {
   house : l.desk.kept.house ≡ l.fn.desk.kept.house;
   rest : rest_of l.unserved ≡ rest_of l.fn.unserved;
   open' : l.desk.closed ≡ false;
-  far : (counts : Counts) × HaveSealed g.D.Disk.told l.fn.desk l.desk [] counts × ((seats : Seats) → SoFar (line_at l.at l.conn) seats l.fn.desk.kept l.fn.dialog (smtp_lines_of l.fn.unserved) l.reply counts l.desk.kept l.dialog (smtp_lines_of l.unserved));
+  far : (counts : TurnCounts) × HaveSealed g.D.Disk.told l.fn.desk l.desk [] counts × ((seats : Seats) → SoFar (line_at l.at l.conn) seats l.fn.desk.kept l.fn.dialog (smtp_lines_of l.fn.unserved) l.reply counts l.desk.kept l.dialog (smtp_lines_of l.unserved));
 }
 
 abbrev pub decreases-loop-line : goal.decreases-loop-line

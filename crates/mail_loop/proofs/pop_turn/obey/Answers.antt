@@ -18,8 +18,8 @@ follow-requires-clause-user g c = subst (λ (o : Out). AsksAs pop_speech o c.arg
 pub follow-requires-clause-there : goal.follow-requires-clause-there
 follow-requires-clause-there g c = subst (λ (o : Out). AreThere c.args.desk.now.kept o) (sym c.in-Ok.ensures.ok) c.requires.there
 
-pub read_starved-requires-clause-reading : goal.read_starved-requires-clause-reading
-read_starved-requires-clause-reading g c = reading_of c.args.out c.args.session.now c.in-Err.ensures.err c.requires.next
+pub read_out_of_memory-requires-clause-reading : goal.read_out_of_memory-requires-clause-reading
+read_out_of_memory-requires-clause-reading g c = reading_of c.args.out c.args.session.now c.in-Err.ensures.err c.requires.next
 
 pub returns-in-Ok-clause-turn : goal.returns-in-Ok-clause-turn
 returns-in-Ok-clause-turn g c =
@@ -31,6 +31,6 @@ returns-in-Ok-clause-turn g c =
 pub returns-in-Err-clause-turn : goal.returns-in-Err-clause-turn
 returns-in-Err-clause-turn g c =
     let desk = c.args.desk.now in
-    let new = c.read_starved.new in
+    let new = c.read_out_of_memory.new in
     textless_line (HaveSealed g.D.Disk.told desk desk) c.args.at desk.kept c.args.out c.args.session.now new.session c.args.reply.now new.reply c.in-Err.ensures.err c.requires.next
-    (unsealed g.D.Disk.told c.seals_join.ensures.nothing desk) (c.read_starved.ensures.read desk.kept)
+    (unsealed g.D.Disk.told c.seals_join.ensures.nothing desk) (c.read_out_of_memory.ensures.read desk.kept)

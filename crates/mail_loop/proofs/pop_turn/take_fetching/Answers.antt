@@ -5,7 +5,7 @@ use Rattle.verb_core.specs.Store.{MailStore}
 use Rattle.shelf.specs.Notes.{size_of}
 use Rattle.mail_desk.proofs.Stampings.{rise_alike}
 use Rattle.mail_loop.specs.Asked.{HaveSealed}
-use Rattle.mail_loop.proofs.PopTurns.{line_is, line_turn, starved_line, there_of}
+use Rattle.mail_loop.proofs.PopTurns.{line_is, line_turn, out_of_memory_line, there_of}
 use Rattle.mail_loop.proofs.Sealed.{unsealed}
 use Rattle.mail_loop.proofs.pop_turn.take_fetching.Goals as goal
 
@@ -39,5 +39,5 @@ returns-in-Err-clause-turn g c =
     let users = c.args.users.now in
     let d = c.args.session.now in
     let line = c.args.line.now in
-    starved_line (HaveSealed g.D.Disk.told desk desk) c.args.at desk.kept users d c.take.new.self line c.memory_text.result.now old new c.in-Err.ensures.err c.memory_text.ensures
+    out_of_memory_line (HaveSealed g.D.Disk.told desk desk) c.args.at desk.kept users d c.take.new.self line c.memory_text.result.now old new c.in-Err.ensures.err c.memory_text.ensures
     (unsealed g.D.Disk.told c.seals_join.ensures.nothing desk) c.say.ensures

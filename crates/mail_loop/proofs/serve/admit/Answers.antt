@@ -4,7 +4,7 @@ use Rattle.mail_loop.specs.Roles.{row_of}
 use Rattle.mail_loop.specs.Machine.{Reply, admitted}
 use Rattle.mail_loop.specs.State.{State}
 use Rattle.mail_loop.specs.Stands.{letter_of, replies_of}
-use Rattle.mail_loop.proofs.Joining.{left_ungreeted, opened_with, starved_greeting}
+use Rattle.mail_loop.proofs.Joining.{left_ungreeted, opened_with, out_of_memory_greeting}
 use Rattle.mail_loop.proofs.serve.admit.Goals as goal
 
 pub returns-in-Ok-Some-clause-answers : goal.returns-in-Ok-Some-clause-answers
@@ -41,5 +41,5 @@ returns-in-Err-clause-answers g c =
       true,
       left_ungreeted (admitted true s c.args.conn row.fresh (row.greeting kept.house)) kept es c.args.conn (letter_of c.ungreeted.result) (λ replies. replies_of replies.items) c.alone.result
           (ap (λ (h : House). admitted true s c.args.conn row.fresh (row.greeting h)) (sym c.house.ensures.value)
-          ∙ starved_greeting s c.args.conn row.fresh (row.greeting c.house.result.now) c.in-Err.ensures.err) c.ungreeted.ensures c.alone.ensures,
+          ∙ out_of_memory_greeting s c.args.conn row.fresh (row.greeting c.house.result.now) c.in-Err.ensures.err) c.ungreeted.ensures c.alone.ensures,
     )

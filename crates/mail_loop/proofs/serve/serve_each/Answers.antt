@@ -12,7 +12,7 @@ use Rattle.mail_loop.proofs.Courses.{ends_disk, none_through, one_more, went_end
 use Rattle.mail_loop.proofs.Events.{leads_end}
 use Rattle.mail_loop.proofs.Seats.{none_home}
 use Rattle.mail_loop.proofs.Sealed.{all_sealed, chained, is_due_on_open, some_unsealed, unsealed}
-use Rattle.mail_loop.proofs.Runs.{so_served_none, so_more, so_ended, so_failed, so_starved, so_stopped, so_unfed, so_unlinked}
+use Rattle.mail_loop.proofs.Runs.{so_served_none, so_more, so_ended, so_failed, so_out_of_memory, so_stopped, so_unfed, so_unlinked}
 use Rattle.mail_loop.proofs.serve.serve_each.Goals as goal
 
 pub loop-init : goal.loop-init
@@ -73,7 +73,7 @@ returns-in-Err-clause-serves g c =
     let l = c.loop in
     let sent = c.serve_event-sent in
     let new = sent.new in
-    so_starved (HaveSealed disk c.args.desk.now l.desk) (HaveSealed disk l.desk new.desk) (HaveSealed disk c.args.desk.now new.desk) (λ (q : List Step). WentThrough disk q c.args.desk.now l.desk)
+    so_out_of_memory (HaveSealed disk c.args.desk.now l.desk) (HaveSealed disk l.desk new.desk) (HaveSealed disk c.args.desk.now new.desk) (λ (q : List Step). WentThrough disk q c.args.desk.now l.desk)
     (λ (h : Hindrances). GoesThrough disk (record { kept = l.desk.kept; seats = l.connections.entries }) (record { event = c.in-Ok.event; hindrances = h }) l.desk new.desk) (λ (q : List Step). WentThrough disk q c.args.desk.now new.desk) l.counter c.args.turns (told c.args.link.now) (told l.link) (told c.next.new.self) (told new.link) c.args.desk.now.kept
     new.desk.kept (record { kept = l.desk.kept; seats = l.connections.entries }) new.connections.entries c.in-Ok.event sent.result _ l.invariant.served c.loop-test.true c.in-Ok.ensures
     (sym c.is_end_of.ensures ∙ c.if-is_end_of.false) sent.ensures.leads c.in-Err.is

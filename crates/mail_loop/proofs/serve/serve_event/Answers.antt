@@ -9,7 +9,7 @@ use Rattle.mail_loop.specs.Stands.{AreHome, replies_of}
 use Rattle.mail_loop.specs.State.{State}
 use Rattle.mail_loop.proofs.Sealed.{kept_sealed, open_as, passed_on}
 use Rattle.mail_loop.proofs.Courses.{went_alone, went_on}
-use Rattle.mail_loop.proofs.Events.{leads_starved, leads_by, leads_cut, leads_on}
+use Rattle.mail_loop.proofs.Events.{leads_out_of_memory, leads_by, leads_cut, leads_on}
 use Rattle.mail_loop.proofs.serve.serve_event.Goals as goal
 
 pub returns-in_err-answer-clause-leads : goal.returns-in_err-answer-clause-leads
@@ -21,7 +21,7 @@ returns-in_err-answer-clause-leads g c =
     let old = c.args.desk.now in
     let new = c.answer_event.new.desk in
     let s : State = record { kept = old.kept; seats = c.args.connections.now.entries } in
-    leads_starved (HaveSealed disk old new) (λ (h : Hindrances). GoesThrough disk s (record { event = c.args.event.now; hindrances = h }) old new) (told c.args.link.now) s c.args.event.now b hs stage new.kept
+    leads_out_of_memory (HaveSealed disk old new) (λ (h : Hindrances). GoesThrough disk s (record { event = c.args.event.now; hindrances = h }) old new) (told c.args.link.now) s c.args.event.now b hs stage new.kept
     c.answer_event.new.connections.entries p.0 c.from_residual.result p.1 a.0.0 a.0.1 a.0.2 c.in_err-answer.ensures.undone a.1 a.2
     (λ ds. went_alone disk c.seals_join.ensures.nothing s (record { event = c.args.event.now; hindrances = record { unfed = b; turns = hs; stage = stage; deliveries = ds; keeping = IsPassed } }) old new (passed_on new) c.requires.sealed a.1 a.0.0)
 

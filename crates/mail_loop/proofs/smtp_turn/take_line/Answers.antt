@@ -55,10 +55,10 @@ returns-in-Ok-clause-turn g c =
 pub returns-in-Err-clause-turn : goal.returns-in-Err-clause-turn
 returns-in-Err-clause-turn g c =
     let desk = c.args.desk.now in
-    let new = c.starve.new in
+    let new = c.run_out_of_memory.new in
     let (h, takes) =
     subst (λ (d : Dialog). (h : Hindrance) × ((others : Seats) → Takes IsNone (hindered smtp_session h c.args.at desk.kept others d c.args.line.now) c.args.reply.now desk.kept new.session new.reply)) c.in-Err.ensures.err
-    (c.starve.ensures.turn c.args.at desk.kept c.args.line.now) in (
+    (c.run_out_of_memory.ensures.turn c.args.at desk.kept c.args.line.now) in (
       h,
       λ others.
           lifted (HaveSealed g.D.Disk.told desk desk) (hindered smtp_session h c.args.at desk.kept others c.args.session.now c.args.line.now) c.args.reply.now desk.kept new.session new.reply (takes others)

@@ -1,6 +1,6 @@
 use Rattle.std.proofs.Common.{inr, refl, subst}
 use Rattle.mail_loop.specs.Asked.{HaveSealed}
-use Rattle.mail_loop.specs.Took.{ReadsStarved}
+use Rattle.mail_loop.specs.Took.{ReadsOutOfMemory}
 use Rattle.mail_loop.proofs.Dialogs.{given_turn}
 use Rattle.mail_loop.proofs.Sealed.{unsealed}
 use Rattle.mail_loop.proofs.turn.hand_texts.Goals as goal
@@ -14,9 +14,9 @@ returns-in-Ok-clause-turn g c =
 pub returns-clause-turn : goal.returns-clause-turn
 returns-clause-turn g c =
     let desk = c.args.desk.now in
-    let new = c.read_starved.new in
+    let new = c.read_out_of_memory.new in
     inr (
-      subst (λ (e : g.row.S.Denot). ReadsStarved g.S.Speaks.speech desk.kept e c.args.reply.now new.session new.reply) c.in-Err.ensures.err (c.read_starved.ensures.read desk.kept),
+      subst (λ (e : g.row.S.Denot). ReadsOutOfMemory g.S.Speaks.speech desk.kept e c.args.reply.now new.session new.reply) c.in-Err.ensures.err (c.read_out_of_memory.ensures.read desk.kept),
       refl,
       unsealed g.D.Disk.told c.seals_join.ensures.nothing desk,
     )

@@ -1,5 +1,5 @@
 use Rattle.std.proofs.Common.{inr, subst}
-use Rattle.mail_loop.specs.Took.{ReadsStarved}
+use Rattle.mail_loop.specs.Took.{ReadsOutOfMemory}
 use Rattle.mail_loop.proofs.Dialogs.{read_not}
 use Rattle.mail_loop.proofs.turn.read_none.Goals as goal
 
@@ -9,4 +9,4 @@ returns-in-Ok-clause-read g c kept =
 
 pub returns-clause-read : goal.returns-clause-read
 returns-clause-read g c kept =
-    inr (subst (λ (d : g.row.S.Denot). ReadsStarved g.S.Speaks.speech kept d c.args.reply.now c.read_starved.new.session c.read_starved.new.reply) c.in-Err.ensures.err (c.read_starved.ensures.read kept))
+    inr (subst (λ (d : g.row.S.Denot). ReadsOutOfMemory g.S.Speaks.speech kept d c.args.reply.now c.read_out_of_memory.new.session c.read_out_of_memory.new.reply) c.in-Err.ensures.err (c.read_out_of_memory.ensures.read kept))

@@ -4,7 +4,7 @@ use Rattle.undo_base.specs.declared.keys.User.{User}
 use Rattle.verb_core.specs.Live.{is_users}
 use Rattle.verb_core.specs.Store.{is_known}
 use Rattle.verb_core.specs.declared.ask.Ask.{Ask}
-use Rattle.mail_loop.specs.Counts.{none_counted}
+use Rattle.mail_loop.specs.TurnCounts.{none_counted}
 use Rattle.mail_loop.specs.Asked.{HaveSealed}
 use Rattle.mail_loop.specs.Took.{SettlesOrAsks}
 use Rattle.mail_loop.proofs.Commands.{asker_known, asker_of, home_in}

@@ -1,7 +1,7 @@
 use Rattle.std.proofs.Common.{ap}
 use Rattle.mail_proxy.specs.declared.plan.Plan.{Plan}
 use Rattle.mail_proxy.specs.Plans.{output_of}
-use Rattle.mail_proxy.proofs.Served.{grows_over, starved_before}
+use Rattle.mail_proxy.proofs.Served.{grows_over, out_of_memory_before}
 use Rattle.mail_proxy.proofs.grow.grow_events.Goals as goal
 
 pub returns-in-Ok : goal.returns-in-Ok
@@ -15,4 +15,4 @@ returns-in-Ok g c =
 pub returns-in-Err : goal.returns-in-Err
 returns-in-Err g c =
     let plan = c.only_line.result in
-    starved_before c.args.rounds plan.status (output_of plan) (ap (λ (p : Plan). p.status) c.only_line.ensures) (ap output_of c.only_line.ensures)
+    out_of_memory_before c.args.rounds plan.status (output_of plan) (ap (λ (p : Plan). p.status) c.only_line.ensures) (ap output_of c.only_line.ensures)

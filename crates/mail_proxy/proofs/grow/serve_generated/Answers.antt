@@ -14,7 +14,7 @@ returns-in-Ok g c =
     let last = c.serve_events-ended.new.desk in
     let plan = c.plan_grown.result in
     generated_over g.D.Disk.told c.args.rounds c.args.events c.args.desk.now last _ _ c.serve_events-ended.result c.outcome_over.result steps notes added plan.status (output_of plan) over seals counted.reads
-    c.new-link.ensures.coming c.new-link.ensures.reliable c.new-link.ensures.starved c.outcome_over.ensures c.requires c.serve_events-ended.ensures.closed
+    c.new-link.ensures.coming c.new-link.ensures.reliable c.new-link.ensures.out_of_memory c.outcome_over.ensures c.requires c.serve_events-ended.ensures.closed
     (subst (λ (o : Result (Unit {0}) ServeFault). TellsGrown c.args.rounds o last.kept plan.status (output_of plan)) (sym c.in-Ok.is)
     (subst (λ (n : Counts). TellsText (grown_text c.args.rounds n) plan.status (output_of plan)) c.counts.ensures c.plan_grown.ensures))
     (λ holds. record { runs = c.serve_events-ended.ensures.runs holds; uids = c.serve_events-ended.ensures.uids holds })
@@ -25,7 +25,7 @@ returns g c =
     let last = c.serve_events-ended.new.desk in
     let plan = c.plan_of.result in
     generated_over g.D.Disk.told c.args.rounds c.args.events c.args.desk.now last _ _ c.serve_events-ended.result c.outcome_over.result steps notes added plan.status (output_of plan) over seals counted.reads
-    c.new-link.ensures.coming c.new-link.ensures.reliable c.new-link.ensures.starved c.outcome_over.ensures c.requires c.serve_events-ended.ensures.closed
+    c.new-link.ensures.coming c.new-link.ensures.reliable c.new-link.ensures.out_of_memory c.outcome_over.ensures c.requires c.serve_events-ended.ensures.closed
     (subst (λ (o : Result (Unit {0}) ServeFault). TellsGrown c.args.rounds o last.kept plan.status (output_of plan)) (sym c.in-Err.is)
     (c.plan_of.ensures.status, ap (λ (l : List ℕ). l ++ line_text plan.last) (c.plan_of.ensures.body ∙ c.new.ensures) ∙ c.plan_of.ensures.last))
     (λ holds. record { runs = c.serve_events-ended.ensures.runs holds; uids = c.serve_events-ended.ensures.uids holds })

@@ -8,7 +8,7 @@ use Rattle.mail_desk.specs.Timeline.{SizesOf}
 use Rattle.time_desk.specs.Cycling.{RenotesAs, asked_then}
 use Rattle.desk_journal.specs.Lasting.{lasting}
 use Rattle.desk_journal.specs.Stored.{MarkedBefore}
-use Rattle.time_desk.proofs.Rewinding.{cycle_notes, cycle_sealed, cycle_starved, cycle_unsealed, cycled}
+use Rattle.time_desk.proofs.Rewinding.{cycle_notes, cycle_sealed, cycle_out_of_memory, cycle_unsealed, cycled}
 use Rattle.seal_log.proofs.Uses.{reads_none}
 use Rattle.desk_journal.proofs.Sealed.{marked_same, noted_same}
 use Rattle.time_desk.proofs.Wants.{sealing_wants}
@@ -81,7 +81,7 @@ returns-in-Err-seal_found-clause-why g c = λ disk reads well red.
 
 pub returns-in-Err-clause-why : goal.returns-in-Err-clause-why
 returns-in-Err-clause-why g c = λ disk reads well red.
-    cycle_starved g.D.Disk.told disk c.args.desk.now c.ready_cycle.new.desk c.args.journal.now c.args.journal.now c.args.at c.args.ask c.args.made [] reads red c.requires.anew
+    cycle_out_of_memory g.D.Disk.told disk c.args.desk.now c.ready_cycle.new.desk c.args.journal.now c.args.journal.now c.args.at c.args.ask c.args.made [] reads red c.requires.anew
     c.requires.open g.met.D.Disk.tells_truth well c.in-Err.ensures.kept c.in-Err.ensures.same c.in-Err.ensures.same_marks
 
 pub returns-in-Err-seal_found-clause-wants : goal.returns-in-Err-seal_found-clause-wants

@@ -50,9 +50,9 @@ returns-in-Err-clause-why g c =
 pub returns-in-Ok-clause-rewinds : goal.returns-in-Ok-clause-rewinds
 returns-in-Ok-clause-rewinds g c = λ due is holds. any_ok c.cycle_made.result (c.in-Ok.ensures.redoes.few due is (holds.payloads, holds.texts))
 
-pub returns-in-Ok-clause-fed : goal.returns-in-Ok-clause-fed
-returns-in-Ok-clause-fed g c =
-    fed_later g.D.Disk.told c.args.journal.now.disk c.cycle.new.journal.disk c.cycle_made.new.journal.disk c.cycle_made.result c.in-Ok.ensures.still.reads c.cycle_made.ensures.fed
+pub returns-in-Ok-clause-finds_memory : goal.returns-in-Ok-clause-finds_memory
+returns-in-Ok-clause-finds_memory g c =
+    fed_later g.D.Disk.told c.args.journal.now.disk c.cycle.new.journal.disk c.cycle_made.new.journal.disk c.cycle_made.result c.in-Ok.ensures.still.reads c.cycle_made.ensures.finds_memory
 
 pub returns-in-Ok-clause-wants : goal.returns-in-Ok-clause-wants
 returns-in-Ok-clause-wants g c =

@@ -1,16 +1,16 @@
 use Rattle.std.proofs.Common.{◌∙◌, ap, subst, sym, ℕ}
 use Rattle.store_kept.specs.Kept.{Kept}
-use Rattle.time_desk.specs.Serving.{IsNewest, Serves}
+use Rattle.time_desk.specs.Serving.{IsNewest, CanBegin}
 use Rattle.time_desk.proofs.redo.prepared.Goals as goal
 
 pub returns-in-Ok-clause-serves : goal.returns-in-Ok-clause-serves
-returns-in-Ok-clause-serves g c = subst (λ (n : ℕ). Serves c.args.desk.now.kept n c.in-Ok.first) c.place.ensures.place c.in-Ok.ensures.serves
+returns-in-Ok-clause-serves g c = subst (λ (n : ℕ). CanBegin c.args.desk.now.kept n c.in-Ok.first) c.place.ensures.place c.in-Ok.ensures.serves
 
 pub returns-in-Ok-clause-begins : goal.returns-in-Ok-clause-begins
 returns-in-Ok-clause-begins g c = record {
   valid = c.in-Ok.ensures.serves.serves.valid;
   house = c.in-Ok.ensures.serves.serves.house ∙ sym (ap (λ (k : Kept). k.house) c.requires.kept);
-  few = (subst (λ (n : ℕ). Serves c.args.desk.now.kept n c.in-Ok.first) c.place.ensures.place c.in-Ok.ensures.serves).few;
+  few = (subst (λ (n : ℕ). CanBegin c.args.desk.now.kept n c.in-Ok.first) c.place.ensures.place c.in-Ok.ensures.serves).few;
 }
 
 pub returns-in-Ok-clause-newest : goal.returns-in-Ok-clause-newest

@@ -51,9 +51,9 @@ returns-in-Err-clause-why g c =
 pub returns-in-Ok-clause-withdraws : goal.returns-in-Ok-clause-withdraws
 returns-in-Ok-clause-withdraws g c = λ last is holds. any_ok c.withdrawal_made.result (c.in-Ok.ensures.redoes.few last is (holds.payloads, holds.texts))
 
-pub returns-in-Ok-clause-fed : goal.returns-in-Ok-clause-fed
-returns-in-Ok-clause-fed g c =
-    fed_later g.D.Disk.told c.args.journal.now.disk c.withdrawal.new.journal.disk c.withdrawal_made.new.journal.disk c.withdrawal_made.result c.in-Ok.ensures.still.reads c.withdrawal_made.ensures.fed
+pub returns-in-Ok-clause-finds_memory : goal.returns-in-Ok-clause-finds_memory
+returns-in-Ok-clause-finds_memory g c =
+    fed_later g.D.Disk.told c.args.journal.now.disk c.withdrawal.new.journal.disk c.withdrawal_made.new.journal.disk c.withdrawal_made.result c.in-Ok.ensures.still.reads c.withdrawal_made.ensures.finds_memory
 
 pub returns-in-Ok-clause-wants : goal.returns-in-Ok-clause-wants
 returns-in-Ok-clause-wants g c =

@@ -8,7 +8,7 @@ use Rattle.mail_desk.specs.Timeline.{SizesOf}
 use Rattle.time_desk.specs.Cycling.{asked_then}
 use Rattle.desk_journal.specs.Lasting.{lasting}
 use Rattle.desk_journal.specs.Stored.{MarkedBefore, NotesNone}
-use Rattle.time_desk.proofs.Withdrawing.{sealing_wants, withdrawal_notes, withdrawal_sealed, withdrawal_starved, withdrawal_unsealed, withdrawn}
+use Rattle.time_desk.proofs.Withdrawing.{sealing_wants, withdrawal_notes, withdrawal_sealed, withdrawal_out_of_memory, withdrawal_unsealed, withdrawn}
 use Rattle.seal_log.proofs.Uses.{reads_none}
 use Rattle.desk_journal.proofs.Sealed.{marked_same, noted_same}
 use Rattle.desk_journal.proofs.Marking.{marked_front, marked_later}
@@ -78,7 +78,7 @@ returns-in-Err-seal_found-clause-why g c = λ disk reads well is.
 
 pub returns-in-Err-clause-why : goal.returns-in-Err-clause-why
 returns-in-Err-clause-why g c = λ disk reads well is.
-    withdrawal_starved g.D.Disk.told disk c.args.desk.now c.ready_withdrawal.new.desk c.args.journal.now c.args.journal.now c.args.at c.args.key.now c.args.of c.args.made [] reads c.requires.open is c.requires.anew
+    withdrawal_out_of_memory g.D.Disk.told disk c.args.desk.now c.ready_withdrawal.new.desk c.args.journal.now c.args.journal.now c.args.at c.args.key.now c.args.of c.args.made [] reads c.requires.open is c.requires.anew
     g.met.D.Disk.tells_truth well c.in-Err.ensures.kept c.in-Err.ensures.same c.in-Err.ensures.same_marks
 
 pub returns-in-Err-seal_found-clause-wants : goal.returns-in-Err-seal_found-clause-wants

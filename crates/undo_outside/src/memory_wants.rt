@@ -4,17 +4,17 @@ ghost use Rattle.undo_outside.specs.Calls.{RoseOnce};
 
 /// How many calls found no memory, and whether the last one did.
 #[derive(Debug, Drop)]
-pub struct Starving {
+pub struct MemoryWants {
     pub calls: u64,
     pub last: bool,
 }
 
-impl Starving {
+impl MemoryWants {
     /// No call found none yet.
-    pub fn new() -> Starving
+    pub fn new() -> MemoryWants
         ensures { result ≡ record { calls = 0; last = false } }
     {
-        Starving {
+        MemoryWants {
             calls: 0,
             last: false,
         }
