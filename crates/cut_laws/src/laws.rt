@@ -73,6 +73,9 @@ pub fn cuts_open()
     ensures spelled { (records : List JournalRecord) (kept : Kept) (place : ℕ) → state records ≡ Some kept → CanBeWritten kept place → AreSpelled (cut kept place) }
     ensures opens { (records : List JournalRecord) (kept : Kept) (place : ℕ) → state records ≡ Some kept → CanBeWritten kept place →
         OpensAs (cut_journal kept place) (Ok (cut kept place)) }
+    ensures whole { (image : List ℕ) (kept : Kept) (place : ℕ) (parts : CutParts) → OpensAs image (Ok kept) → AreParts (cut kept place) parts →
+        AllByRecursion (λ (i : Item). HasSpelling (KeptRecord i)) parts.kept → AllByRecursion IsPayload (payloads_of (cut_records kept place)) →
+        OpensAs (cut_journal kept place) (Ok (cut kept place)) }
 {
     mail_is_kept();
     rows_make_valid_stores();

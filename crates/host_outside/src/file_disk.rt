@@ -10,6 +10,7 @@ ghost use Rattle.host_outside.specs.declared.file_disk.State.TheVariants as stat
 use crate::calls::FileCalls;
 use crate::locks::Locks;
 use crate::path_file::{Found, Lock, PathFile};
+use std::os::unix::fs::FileExt;
 use std::rt::Files;
 use std::time::Clock;
 use undo_outside::{Disk, DiskFault, Failed, Fault};
@@ -47,7 +48,7 @@ pub type FileDisk<'a, R> = DiskOver<PathFile<'a, R>>;
 
 impl<'a, R: Files + Eprint + Clock> DiskOver<PathFile<'a, R>>
 where
-    R::File: Locks,
+    R::File: Locks + FileExt,
 {
     /// The file at this path, locked for this program alone as long as the disk is there; a missing one has length 0, and is
     /// made at the first write. Without a path, or where another program has locked the file or no length was found, each

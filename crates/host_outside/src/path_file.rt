@@ -6,8 +6,8 @@ use crate::calls::FileCalls;
 use crate::locks::Locks;
 use crate::telling::{Throttle, meaning, second};
 use std::fs::{self, OpenFile, OpenOptions};
-use std::io::{self, ErrorKind, Read, Seek, SeekFrom, Write};
-use std::os::unix::fs::{MetadataExt, OpenOptionsExt};
+use std::io::{self, ErrorKind};
+use std::os::unix::fs::{FileExt, MetadataExt, OpenOptionsExt};
 use std::path::Path;
 use std::rt::Files;
 use std::time::Clock;
@@ -92,7 +92,7 @@ where
 
 impl<'a, R: Files + Eprint + Clock> FileCalls for PathFile<'a, R>
 where
-    R::File: Locks,
+    R::File: Locks + FileExt,
 {
     ghost told = { λ _. None };
 
@@ -108,8 +108,7 @@ where
     }
 
     fn read(&mut self, place: u64, buf: &mut [u8]) -> Result<(), Failed> {
-        let file = self.file.as_mut().ok_or(Failed)?;
-        match read_at(file, place, buf) {
+        match self.file.as_ref().ok_or(Failed)?.read_exact_at(buf, place) {
             Ok(()) => Ok(()),
             Err(error) => Err(self.tell_seldom("it cannot be read", &error)),
         }
@@ -125,10 +124,10 @@ where
     }
 
     fn write(&mut self, place: u64, bytes: &[u8]) -> Result<(), DiskFault> {
-        let Some(file) = self.file.as_mut() else {
+        let Some(file) = self.file.as_ref() else {
             return Err(Fault::Failed);
         };
-        match write_at(file, place, bytes) {
+        match file.write_all_at(bytes, place) {
             Ok(()) => Ok(()),
             Err(error) => Err(self.unwritten(&error)),
         }
@@ -253,16 +252,6 @@ where
         .open(files, path)?;
     file.lock_alone()?;
     Ok(file)
-}
-
-fn read_at<F: Read + Seek>(file: &mut F, place: u64, buf: &mut [u8]) -> io::Result<()> {
-    file.seek(SeekFrom::Start(place))?;
-    file.read_exact(buf)
-}
-
-fn write_at<F: Write + Seek>(file: &mut F, place: u64, bytes: &[u8]) -> io::Result<()> {
-    file.seek(SeekFrom::Start(place))?;
-    file.write_all(bytes)
 }
 
 /// Whether the open file is the one at its path, and has this length.

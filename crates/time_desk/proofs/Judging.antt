@@ -91,20 +91,20 @@ pub record IsNext (all : List (List ℕ)) (places : List Place) (i : ℕ) (first
   pub goes : (new : Kept) → Judges now what true new → Left all places (i + 1) first new kept gate records
   pub stops : (new : Kept) → Judges now what false new → Some place.gate ≡ first_false first gate records
 
-drop_at : (places : List Place) (i : ℕ) (d : Place) → i < length places → drop i places ≡ get_or places i d ∷ drop (i + 1) places
+pub drop_at : (places : List Place) (i : ℕ) (d : Place) → i < length places → drop i places ≡ get_or places i d ∷ drop (i + 1) places
 drop_at [] i d below = absurd (omega arith)
 drop_at (p ∷ places) zero d below = refl
 drop_at (p ∷ places) (suc i) d below =
     let count : suc i + 1 ≡ suc (i + 1) = omega arith in
     drop_at places i d (omega arith) ∙ sym (ap (λ (n : ℕ). get_or places i d ∷ drop n (p ∷ places)) count)
 
-drop_end : (places : List Place) (i : ℕ) → length places ≤ i → drop i places ≡ []
+pub drop_end : (places : List Place) (i : ℕ) → length places ≤ i → drop i places ≡ []
 drop_end [] zero past = refl
 drop_end [] (suc i) past = refl
 drop_end (p ∷ places) zero past = absurd (omega arith)
 drop_end (p ∷ places) (suc i) past = drop_end places i (omega arith)
 
-sealed_push : (seen : List (List ℕ)) (p : List ℕ) → length (sealed (seen ++ p ∷ [])) ≡ length (sealed seen) + 5 + length p
+pub sealed_push : (seen : List (List ℕ)) (p : List ℕ) → length (sealed (seen ++ p ∷ [])) ≡ length (sealed seen) + 5 + length p
 sealed_push seen p =
     omega (
       arith,
@@ -113,6 +113,33 @@ sealed_push seen p =
       length-append (85 ∷ frame p) [],
       length-append (to_be_bytes w32 (length p)) p,
     )
+
+-- the first of records that can stand has a spelling
+pub first_spelled : (now kept : Kept) (what : JournalRecord) (rs : List JournalRecord) → after_records now (what ∷ rs) ≡ Some kept → HasSpelling what
+first_spelled now kept what rs leaves = stood (after_record now what) refl leaves
+  where
+    stood : (o : Option Kept) → after_record now what ≡ o → option_and_then (λ (k : Kept). after_records k rs) o ≡ Some kept → HasSpelling what
+    stood None is e = absurd (cc e)
+    stood (Some k) is e = record_spelled now what (ap is_some is)
+
+-- where it is true, the first that is not is the first of those behind it
+pub found_on : (now new : Kept) (seen : List (List ℕ)) (what : JournalRecord) (rs : List JournalRecord) → Judges now what true new
+    → first_false now (length (sealed seen)) (what ∷ rs) ≡ first_false new (length (sealed (seen ++ record_bytes what ∷ []))) rs
+found_on now new seen what rs judged =
+    ap (λ (b : Bool). if b then option_and_then (λ (k : Kept). first_false k (length (sealed seen) + 5 + length (record_bytes what)) rs) (after_record now what) else Some (length (sealed seen))) judged.0
+    ∙ ap (option_and_then (λ (k : Kept). first_false k (length (sealed seen) + 5 + length (record_bytes what)) rs)) judged.1
+    ∙ ap (λ (n : ℕ). first_false new n rs) (sym (sealed_push seen (record_bytes what)))
+
+-- where it is not, it is the first
+pub found_here : (now kept new : Kept) (gate : ℕ) (what : JournalRecord) (rs : List JournalRecord) → after_records now (what ∷ rs) ≡ Some kept → Judges now what false new
+    → first_false now gate (what ∷ rs) ≡ Some gate
+found_here now kept new gate what rs leaves judged = wrong judged
+  where
+    wrong : (is_true now what ≡ false) ⊎ (after_record now what ≡ None) → first_false now gate (what ∷ rs) ≡ Some gate
+    wrong (inl untrue) = ap (λ (b : Bool). if b then option_and_then (λ (k : Kept). first_false k (gate + 5 + length (record_bytes what)) rs) (after_record now what) else Some gate) untrue
+    wrong (inr none) =
+        let clash : None ≡ Some kept = sym (ap (option_and_then (λ (k : Kept). after_records k rs)) none) ∙ leaves in
+        absurd (cc clash)
 
 pub first_left : (before : List (List ℕ)) (places : List Place) (first kept : Kept) (records : List JournalRecord) → places ≡ places_from (length (sealed before)) (payloads_of records) → after_records first records ≡ Some kept
     → Left (before ++ payloads_of records) places 0 first first kept (length (sealed before)) records
@@ -133,7 +160,7 @@ next_left all places i d first now kept gate records below left = by left.rest l
         let later : drop (i + 1) places ≡ places_from (length (sealed left.seen) + 5 + length (record_bytes what)) (payloads_of rs) = cc are in
         record {
           what = what;
-          spelled = stood (after_record now what) refl leaves;
+          spelled = first_spelled now kept what rs leaves;
           lies = record { before = left.seen; after = payloads_of rs; split = split; gate_is = ap (λ (p : Place). p.gate) here; count_is = ap (λ (p : Place). p.length) here };
           goes = λ new judged. record {
             seen = left.seen ++ record_bytes what ∷ [];
@@ -141,22 +168,10 @@ next_left all places i d first now kept gate records below left = by left.rest l
             split = split ∙ sym (append_assoc left.seen (record_bytes what ∷ []) (payloads_of rs));
             places_are = later ∙ ap (λ (n : ℕ). places_from n (payloads_of rs)) (sym (sealed_push left.seen (record_bytes what)));
             leaves = sym (ap (option_and_then (λ (k : Kept). after_records k rs)) judged.1) ∙ leaves;
-            same = same ∙ ap (λ (b : Bool). if b then option_and_then (λ (k : Kept). first_false k (length (sealed left.seen) + 5 + length (record_bytes what)) rs) (after_record now what) else Some (length (sealed left.seen))) judged.0
-                ∙ ap (option_and_then (λ (k : Kept). first_false k (length (sealed left.seen) + 5 + length (record_bytes what)) rs)) judged.1
-                ∙ ap (λ (n : ℕ). first_false new n rs) (sym (sealed_push left.seen (record_bytes what)));
+            same = same ∙ found_on now new left.seen what rs judged;
           };
-          stops = λ new judged. ap (λ (p : Place). Some p.gate) here ∙ sym (same ∙ wrong judged);
+          stops = λ new judged. ap (λ (p : Place). Some p.gate) here ∙ sym (same ∙ found_here now kept new (length (sealed left.seen)) what rs leaves judged);
         }
-      where
-        stood : (o : Option Kept) → after_record now what ≡ o → option_and_then (λ (k : Kept). after_records k rs) o ≡ Some kept → HasSpelling what
-        stood None is e = absurd (cc e)
-        stood (Some k) is e = record_spelled now what (ap is_some is)
-
-        wrong : (is_true now what ≡ false) ⊎ (after_record now what ≡ None) → first_false now (length (sealed left.seen)) (what ∷ rs) ≡ Some (length (sealed left.seen))
-        wrong (inl untrue) = ap (λ (b : Bool). if b then option_and_then (λ (k : Kept). first_false k (length (sealed left.seen) + 5 + length (record_bytes what)) rs) (after_record now what) else Some (length (sealed left.seen))) untrue
-        wrong (inr none) =
-            let clash : None ≡ Some kept = sym (ap (option_and_then (λ (k : Kept). after_records k rs)) none) ∙ leaves in
-            absurd (cc clash)
 
 pub none_left : (all : List (List ℕ)) (places : List Place) (i : ℕ) (first now kept : Kept) (gate : ℕ) (records : List JournalRecord) → length places ≤ i → Left all places i first now kept gate records
     → None ≡ first_false first gate records
@@ -168,7 +183,7 @@ none_left all places i first now kept gate records past left = by left.rest (sym
 
 -- ---- a journal's records, and those it opens with
 
-abbrev OneRecord : Type 0
+abbrev pub OneRecord : Type 0
 OneRecord = (first second : JournalRecord) (bytes : List ℕ) → Spells first bytes → Spells second bytes → first ≡ second
 
 -- payloads that two lists of records spell, one of them in front
@@ -183,10 +198,10 @@ spelled_more one (x ∷ all) (y ∷ first) others spelled here split =
     let same : x ≡ y = one x y (record_bytes x) (spelled.0, refl) (here.0, head) in
     (rest.0, ap (λ (r : JournalRecord). r ∷ all) same ∙ ap (λ (rs : List JournalRecord). y ∷ rs) rest.1, rest.2)
 
-all_spelled : (records : List JournalRecord) (kept : Kept) → state records ≡ Some kept → AllByRecursion HasSpelling records
+pub all_spelled : (records : List JournalRecord) (kept : Kept) → state records ≡ Some kept → AllByRecursion HasSpelling records
 all_spelled records kept is = let stands = leaves_led records kept is in led_spelled records Nowhere stands.at stands.leads
 
-front_spelled : (records : List JournalRecord) (kept : Kept) → opening_state records ≡ Some kept → AllByRecursion HasSpelling records
+pub front_spelled : (records : List JournalRecord) (kept : Kept) → opening_state records ≡ Some kept → AllByRecursion HasSpelling records
 front_spelled records kept is = by (fore_of records) refl is
   where
     by : (o : Option Fore) → fore_of records ≡ o → option_and_then settled o ≡ Some kept → AllByRecursion HasSpelling records

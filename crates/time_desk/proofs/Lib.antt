@@ -8,6 +8,7 @@ pub mod Standings
 pub mod OneWay
 pub mod Surveys
 pub mod Undone
+pub mod Unfiltered
 pub mod Showing
 pub mod Soundness
 pub mod Lasts
@@ -30,3 +31,4 @@ pub mod CutStores
 pub mod CutParts
 pub mod Judging
 pub mod Places
+pub mod Unread

@@ -1,12 +1,13 @@
 -- Which record of a journal is not true.
-use Rattle.std.specs.Prelude.{◌≡◌, ◌⊎◌, ℕ, ◌+◌, Bool, true, false, List, [], ◌∷◌, length, Option, Some, None, option_and_then, if◌then◌else◌}
+use Rattle.std.specs.Prelude.{◌≡◌, ◌⊎◌, ℕ, ◌+◌, Bool, true, false, List, [], ◌∷◌, ◌++◌, length, Option, Some, None, option_and_then, if◌then◌else◌}
+use Rattle.std.specs.Option.{option_or}
 use Rattle.verb_core.specs.declared.item.Item.{Item}
 use Rattle.verb_core.specs.Step.{step}
 use Rattle.verb_bytes.specs.declared.journal.JournalRecord.{JournalRecord}
-use Rattle.verb_bytes.specs.Spelling.{record_bytes}
+use Rattle.verb_bytes.specs.Spelling.{Spells, record_bytes}
 use Rattle.seal_log.specs.Journal.{sealed}
 use Rattle.store_kept.specs.Kept.{Kept, performed, store_of}
-use Rattle.desk_journal.specs.Records.{after_record, behind, front, is_true, opening_state, payloads_of}
+use Rattle.desk_journal.specs.Records.{after_record, after_records, behind, front, is_true, opening_state, payloads_of, state}
 
 -- an item is judged: it shows what the step shows, and it was performed; or it shows another
 abbrev pub JudgesItem : Kept → Item → Bool → Kept → Type 0
@@ -28,3 +29,27 @@ first_false kept gate (r ∷ rs) =
 abbrev pub false_record : List JournalRecord → Option ℕ
 false_record records =
     option_and_then (λ kept. first_false kept (length (sealed (payloads_of (front records)))) (behind records)) (opening_state (front records))
+
+-- ---- where a record decodes no more
+
+-- the payload spells no record
+abbrev pub SpellsNoRecord : List ℕ → Type 0
+SpellsNoRecord payload = (what : JournalRecord) → Spells what payload → ⊥
+
+-- The first of the payloads spell these records, and the next spells none.
+pub record EndsUnread (payloads : List (List ℕ)) (records : List JournalRecord) : Type 0 where
+  pub payload : List ℕ
+  pub after : List (List ℕ)
+  pub split : payloads ≡ payloads_of records ++ payload ∷ after
+  pub none : SpellsNoRecord payload
+
+-- the same of records that leave something, behind a front of their own or behind what is kept
+abbrev pub LeavesUnread : List (List ℕ) → List JournalRecord → Type 0
+LeavesUnread payloads records = (kept : Kept) × (state records ≡ Some kept) × EndsUnread payloads records
+
+abbrev pub LeadsUnread : Kept → List (List ℕ) → List JournalRecord → Type 0
+LeadsUnread first payloads records = (kept : Kept) × (after_records first records ≡ Some kept) × EndsUnread payloads records
+
+-- the gate of the first of these records that is not true, or of what stands behind them
+abbrev pub false_or_behind : List JournalRecord → Option ℕ
+false_or_behind records = option_or (false_record records) (Some (length (sealed (payloads_of records))))

@@ -8,4 +8,5 @@ pub mod Standing
 pub mod Lending
 pub mod Auditing
 pub mod Cutting
+pub mod Unfiltered
 pub mod Fronts

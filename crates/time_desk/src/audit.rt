@@ -1,7 +1,8 @@
 //! An audit: whether each record behind the journal's front is true of what was kept before it. The journal is read once more, and its
 //! records are performed in memory, beside the desk.
-ghost use Rattle.std.specs.Prelude.{◌≡◌, ◌<◌, ◌≤◌, ◌+◌, ◌++◌, ◌^◌, [], ℕ, List, Some, true, false, IfOk, IfSome, OnOk, IsErrOf, length};
+ghost use Rattle.std.specs.Prelude.{◌≡◌, ◌<◌, ◌≤◌, ◌+◌, ◌++◌, ◌^◌, [], ℕ, List, None, Some, true, false, IfOk, IfSome, OnOk, IsErrOf, length};
 ghost use Rattle.std.specs.List.{All, AllByRecursion};
+ghost use Rattle.std.specs.Option.{option_or};
 ghost use Rattle.verb_bytes.specs.declared.journal.JournalRecord.{JournalRecord as TheRecord};
 ghost use Rattle.verb_bytes.specs.declared.journal.JournalRecord.TheVariants.{Verb};
 ghost use Rattle.verb_bytes.specs.Spelling.{HasSpelling, record_bytes};
@@ -16,7 +17,7 @@ ghost use Rattle.mail_desk.specs.Timeline.{NotesText, body_of};
 ghost use Rattle.desk_journal.specs.Records.{after_records, can_follow as follows, payloads_of, state};
 ghost use Rattle.desk_journal.specs.Stored.{AreNoted, KeepsMarks, MarksLie, NotesTexts, TextsHeld, TextsStored};
 ghost use Rattle.desk_journal.specs.Telling.{IsOnlyRead, IsPastRead};
-ghost use Rattle.time_desk.specs.Auditing.{Judges, JudgesItem, false_record, first_false as first_of};
+ghost use Rattle.time_desk.specs.Auditing.{Judges, JudgesItem, LeadsUnread, LeavesUnread, SpellsNoRecord, false_or_behind, false_record, first_false as first_of};
 ghost use Rattle.time_desk.specs.Standing.{IsFormed};
 
 use crate::front::begin_at;
@@ -45,6 +46,8 @@ fn record_there<D: Disk>(
     ensures long { IfOk result (λ found. IfSome found (λ what. place.length ≡ length (record_bytes what))) }
     ensures read { (payloads : List (List ℕ)) (what : TheRecord) → Holds (D.told past.old.disk) payloads
         → LiesAt payloads place.gate place.length (record_bytes what) → HasSpelling what → IfOk result (λ found. found ≡ Some what) }
+    ensures none { (payloads : List (List ℕ)) (payload : List ℕ) → Holds (D.told past.old.disk) payloads
+        → LiesAt payloads place.gate place.length payload → SpellsNoRecord payload → IfOk result (λ found. found ≡ None) }
     ensures still { IsPastRead D.told past.old past.new }
     ensures cause { ReadAtCause (D.told past.old.disk) (D.told past.new.disk) result }
 {
@@ -189,6 +192,8 @@ fn judge<D: Disk>(
     ensures texts { (payloads : List (List ℕ)) (what : TheRecord) → TextsHeld (D.told past.old.disk) payloads desk.old.kept desk.old.notes desk.old.marks
         → LiesAt payloads place.gate place.length (record_bytes what) → HasSpelling what
         → IfOk result (λ truth. truth ≡ true → TextsHeld (D.told past.new.disk) payloads desk.new.kept desk.new.notes desk.new.marks) }
+    ensures unread { (payloads : List (List ℕ)) (payload : List ℕ) → Holds (D.told past.old.disk) payloads
+        → LiesAt payloads place.gate place.length payload → SpellsNoRecord payload → IfOk result (λ truth. truth ≡ false) }
     ensures noted { IfOk result (λ truth. truth ≡ true → AreNoted past.old.end desk.new) }
     ensures still { IsPastRead D.told past.old past.new }
     ensures cause { ReadAtCause (D.told past.old.disk) (D.told past.new.disk) result }
@@ -214,6 +219,9 @@ fn first_false<D: Disk>(
     ensures found { (before : List (List ℕ)) (records : List TheRecord) (kept : Kept) → TextsHeld (D.told past.old.disk) (before ++ payloads_of records) desk.old.kept desk.old.notes desk.old.marks
         → places.now ≡ places_from (length (sealed before)) (payloads_of records) → after_records desk.old.kept records ≡ Some kept
         → IfOk result (λ found. found ≡ first_of desk.old.kept (length (sealed before)) records) }
+    ensures unread { (before payloads : List (List ℕ)) (records : List TheRecord) → TextsHeld (D.told past.old.disk) (before ++ payloads) desk.old.kept desk.old.notes desk.old.marks
+        → places.now ≡ places_from (length (sealed before)) payloads → LeadsUnread desk.old.kept payloads records
+        → IfOk result (λ found. found ≡ option_or (first_of desk.old.kept (length (sealed before)) records) (Some (length (sealed (before ++ payloads_of records))))) }
     ensures still { IsPastRead D.told past.old past.new }
     ensures cause { ReadAtCause (D.told past.old.disk) (D.told past.new.disk) result }
 {
@@ -237,6 +245,8 @@ fn first_false_of<D: Disk>(
     requires places { All (λ place. place.gate + 5 + place.length ≤ past.old.end) places.now }
     ensures found { (records : List TheRecord) (kept : Kept) → state records ≡ Some kept → Holds (D.told past.old.disk) (payloads_of records)
         → places.now ≡ places_from 0 (payloads_of records) → IfOk result (λ found. found ≡ false_record records) }
+    ensures unread { (payloads : List (List ℕ)) (records : List TheRecord) → LeavesUnread payloads records → Holds (D.told past.old.disk) payloads
+        → places.now ≡ places_from 0 payloads → IfOk result (λ found. found ≡ false_or_behind records) }
     ensures still { IsPastRead D.told past.old past.new }
     ensures cause { ReadAtCause (D.told past.old.disk) (D.told past.new.disk) result }
 {
@@ -294,6 +304,8 @@ fn places_of<D: Disk>(alloc: Global, past: &mut Past<D>) -> Result<(Places, u64)
 fn audit_past<D: Disk>(alloc: Global, past: &mut Past<D>) -> Result<Option<u64>, ReadFault>
     ensures told { (records : List TheRecord) (kept : Kept) → state records ≡ Some kept → Holds (D.told past.old.disk) (payloads_of records)
         → AllByRecursion IsPayload (payloads_of records) → past.old.end ≡ length (sealed (payloads_of records)) → IfOk result (λ found. found ≡ false_record records) }
+    ensures unread { (payloads : List (List ℕ)) (records : List TheRecord) → LeavesUnread payloads records → Holds (D.told past.old.disk) payloads
+        → AllByRecursion IsPayload payloads → past.old.end ≡ length (sealed payloads) → IfOk result (λ found. found ≡ false_or_behind records) }
     ensures still { IsPastRead D.told past.old past.new }
     ensures cause { ReadAtCause (D.told past.old.disk) (D.told past.new.disk) result }
 {
@@ -315,6 +327,9 @@ impl<D: Disk> Desk<D> {
     pub fn audit(&mut self, alloc: Global) -> Result<Option<u64>, ReadFault>
         ensures told { (records : List TheRecord) (kept : Kept) → state records ≡ Some kept → Holds (D.told self.old.disk) (payloads_of records)
             → AllByRecursion IsPayload (payloads_of records) → self.old.gate ≡ length (sealed (payloads_of records)) → IfOk result (λ found. found ≡ false_record records) }
+        // One that decodes no more, where what lies there is not what was read when the desk was opened.
+        ensures unread { (payloads : List (List ℕ)) (records : List TheRecord) → LeavesUnread payloads records → Holds (D.told self.old.disk) payloads
+            → AllByRecursion IsPayload payloads → self.old.gate ≡ length (sealed payloads) → IfOk result (λ found. found ≡ false_or_behind records) }
         ensures cause { ReadAtCause (D.told self.old.disk) (D.told self.new.disk) result }
         ensures still { IsStill D.told self.old self.new }
     {

@@ -1,5 +1,5 @@
 //! What a cut at a point is made of: the payloads of Format and Base, the bodies in the base, and the later items.
-ghost use Rattle.std.specs.Prelude.{◌≡◌, ◌<◌, ◌≤◌, ◌+◌, ◌++◌, ◌∷◌, [], ℕ, List, length, map, take, drop, is_some, IsTrue, IfOk, IfErr, OnOk};
+ghost use Rattle.std.specs.Prelude.{◌≡◌, ◌<◌, ◌≤◌, ◌+◌, ◌++◌, ◌∷◌, [], ℕ, List, Some, length, map, take, drop, is_some, IsTrue, IfOk, IfErr, IsErrOf, OnOk};
 ghost use Rattle.std.specs.List.{AllByRecursion, list_all};
 ghost use Rattle.verb_core.specs.declared.item.Item.{Item as TheItem};
 ghost use Rattle.verb_core.specs.Items.{IsWellFormed, text_in};
@@ -7,8 +7,10 @@ ghost use Rattle.verb_core.specs.Step.{run};
 ghost use Rattle.verb_core.specs.Store.{IsValid};
 ghost use Rattle.verb_bytes.specs.declared.journal.JournalRecord.TheVariants.{Base as BaseRecord, Format, Kept as KeptRecord};
 ghost use Rattle.verb_bytes.specs.Spelling.{HasSpelling, record_bytes};
+ghost use Rattle.store_kept.specs.Kept.{IsRun};
 ghost use Rattle.store_kept.specs.Texts.{all_bodies, has_text_kept};
 ghost use Rattle.replay_crew.specs.Hearing.{Counts, HoldsOf, StoresOf, TellsAll};
+ghost use Rattle.repair_desk.specs.Repairs.{position};
 ghost use Rattle.cycle_rules.specs.Cutting.{bodies_of, cut};
 ghost use Rattle.mail_desk.specs.Counting.{bare_item};
 ghost use Rattle.mail_desk.specs.Timeline.{body_of};
@@ -17,6 +19,7 @@ ghost use Rattle.desk_journal.specs.Stored.{HoldsTexts, MarkedBefore, TextsNoted
 ghost use Rattle.desk_journal.specs.Telling.{HoldsHeld, IsOnlyRead, IsPastRead};
 ghost use Rattle.time_desk.specs.Cutting.{AreParts, Cuts, CutsNone, LedBy, bodies_once, body_key, key_body, keys_once};
 ghost use Rattle.time_desk.specs.Planning.{BodiesCause};
+ghost use Rattle.time_desk.specs.Unfiltered.{are_unfiltered, brings_no_filter};
 ghost use Rattle.time_desk.specs.Serving.{CanBegin};
 
 use crate::beginning::beginning;
@@ -38,7 +41,73 @@ use stored_items::{StoredItem, StoredItems};
 use undo_base::{NoMemory, Text};
 use undo_outside::Disk;
 use verb_bytes::{Unwritten, spell_base, spell_kept};
-use verb_core::{Bodies, BodiesFault, Body, BoxId, Entry, Item, Items, Mailbox};
+use verb_core::{Act, Bodies, BodiesFault, Body, BoxId, Deed, Entry, Item, Items, Mailbox};
+
+// ---- texts that nobody looks at
+
+/// Texts that are all empty, of which none is read.
+#[derive(Drop)]
+struct NoTexts;
+
+impl Bodies for NoTexts {
+    ghost use Rattle.time_desk.specs.Unfiltered.{LeadsAnywhere, all_empty, goes_on, to_itself};
+
+    ghost told = { λ _. all_empty };
+
+    ghost leads = { LeadsAnywhere };
+
+    fn text(&mut self, alloc: Global, _body: Body) -> Result<Text, BodiesFault> {
+        Ok(Text::new(alloc))
+    }
+
+    ghost leads_to_itself = { to_itself };
+
+    ghost leads_on = { goes_on };
+}
+
+/// Whether an act brings no filter.
+fn act_brings_no_filter(act: &Act) -> bool
+    ensures { result ≡ brings_no_filter (Deed.Act act.now) }
+{
+    match act {
+        Act::SetAlias { .. } => true,
+        Act::DropAlias { .. } => true,
+        Act::SetFilter(_) => false,
+        Act::DropFilter { .. } => true,
+        Act::Remove { .. } => true,
+        Act::Give { .. } => true,
+    }
+}
+
+/// Whether an item brings no filter.
+fn item_brings_no_filter(item: &StoredItem) -> bool
+    ensures { result ≡ brings_no_filter item.now.deed }
+{
+    match &item.item().deed {
+        Deed::Deliver { .. } => true,
+        Deed::Append { .. } => true,
+        Deed::Fetch { .. } => true,
+        Deed::Store { .. } => true,
+        Deed::Copy { .. } => true,
+        Deed::List { .. } => true,
+        Deed::Status { .. } => true,
+        Deed::Select { .. } => true,
+        Deed::Expunge { .. } => true,
+        Deed::Close { .. } => true,
+        Deed::Create { .. } => true,
+        Deed::Rename { .. } => true,
+        Deed::Delete { .. } => true,
+        Deed::Act(act) => act_brings_no_filter(act),
+        Deed::Notice { .. } => true,
+    }
+}
+
+/// Whether nothing looks at the text of an item that is performed on a store: no filter is in force, and none comes.
+fn none_looks(store: &Store, items: &[StoredItem]) -> bool
+    ensures { result ≡ are_unfiltered store.now.store items.now }
+{
+    store.conf().filters.is_empty() && items.iter().all(|item| item_brings_no_filter(item))
+}
 
 // ---- the store of the base
 
@@ -83,8 +152,8 @@ fn store_of(made: Replayed) -> Store
     store
 }
 
-/// The store that items lead to from a beginning on.
-fn led<B: Bodies>(
+/// The store that items lead to, each delivery with its text, which is read.
+fn led_reading<B: Bodies>(
     alloc: Global,
     store: Store,
     bodies: &mut B,
@@ -110,6 +179,39 @@ fn led<B: Bodies>(
             drop(store);
             Err(BodiesFault::NoMemory)
         }
+    }
+}
+
+/// The same where nothing looks at a text. None is read.
+fn led_unread(alloc: Global, store: Store, items: &[StoredItem]) -> Result<Store, BodiesFault>
+    requires valid { IsValid store.store }
+    requires formed { AllByRecursion (IsWellFormed store.store.house) items.now }
+    requires unread { IsTrue (are_unfiltered store.store items.now) }
+    ensures store { IfOk result (λ made. made.store ≡ run store.store items.now) }
+    ensures never { IsErrOf result BodiesFault.Failed → ⊥ }
+{
+    led_reading(alloc, store, &mut NoTexts, items)
+}
+
+/// The store that items lead to from a beginning on. Their texts are read only where a filter may look at one.
+fn led<B: Bodies>(
+    alloc: Global,
+    store: Store,
+    bodies: &mut B,
+    items: &[StoredItem],
+) -> Result<Store, BodiesFault>
+    requires valid { IsValid store.store }
+    requires formed { AllByRecursion (IsWellFormed store.store.house) items.now }
+    requires held { AllByRecursion (HoldsOf (B.told bodies.old)) items.now }
+    ensures heard { IfOk result (λ made. LedBy store.store items.now made.store) }
+    ensures store { (B.told bodies.old).honest → AllByRecursion (StoresOf (B.told bodies.old)) items.now → IfOk result (λ made. made.store ≡ run store.store items.now) }
+    ensures reads { Counts (B.told bodies.old) (B.told bodies.new) result }
+    ensures leads { B.leads bodies.old bodies.new }
+{
+    if none_looks(&store, items) {
+        led_unread(alloc, store, items)
+    } else {
+        led_reading(alloc, store, bodies, items)
     }
 }
 
@@ -346,8 +448,8 @@ fn parts_of(
     })
 }
 
-/// The parts of a cut at a place.
-fn parts_at<D: Disk>(
+/// The parts of a cut at a place, by what the items through it do.
+fn parts_behind<D: Disk>(
     alloc: Global,
     past: &mut Past<D>,
     desk: &mail_desk::Desk,
@@ -370,6 +472,48 @@ fn parts_at<D: Disk>(
     }
 }
 
+/// The parts of a cut behind all items: the store that they led to is at hand.
+fn parts_now(alloc: Global, desk: &mail_desk::Desk, place: usize) -> Result<CutParts, BodiesFault>
+    requires last { place ≡ length desk.now.kept.timeline }
+    ensures parts { IsRun desk.now.kept → IfOk result (AreParts (cut desk.now.kept place)) }
+    ensures bodies { IfOk result (λ parts. IsTrue (list_all (has_text_kept desk.now.kept) parts.bodies)) }
+    ensures texts { IfOk result (λ parts. AllByRecursion (λ (i : TheItem). IsTrue (is_some (text_in i.deed)) → IsTrue (has_text_kept desk.now.kept (body_of i))) parts.kept) }
+    ensures spelled { IfOk result (λ parts. AllByRecursion (λ (i : TheItem). HasSpelling (KeptRecord i)) parts.kept) }
+    ensures memory { IfErr result (λ fault. fault ≡ BodiesFault.NoMemory) }
+{
+    desk.stands();
+    match parts_of(alloc, desk, desk.store(), place) {
+        Ok(parts) => Ok(parts),
+        Err(NoMemory) => Err(BodiesFault::NoMemory),
+    }
+}
+
+/// The parts of a cut at a place.
+fn parts_at<D: Disk>(
+    alloc: Global,
+    past: &mut Past<D>,
+    desk: &mail_desk::Desk,
+    place: usize,
+) -> Result<CutParts, BodiesFault>
+    requires noted { TextsNoted past.old.end desk.now.notes desk.now.kept }
+    requires marked { MarkedBefore past.old.end desk.now.marks }
+    requires place { place ≤ length desk.now.kept.timeline }
+    ensures parts { HoldsHeld (D.told past.old.disk) desk.now → IfOk result (AreParts (cut desk.now.kept place)) }
+    ensures bodies { IfOk result (λ parts. IsTrue (list_all (has_text_kept desk.now.kept) parts.bodies)) }
+    ensures texts { IfOk result (λ parts. AllByRecursion (λ (i : TheItem). IsTrue (is_some (text_in i.deed)) → IsTrue (has_text_kept desk.now.kept (body_of i))) parts.kept) }
+    ensures spelled { IfOk result (λ parts. AllByRecursion (λ (i : TheItem). HasSpelling (KeptRecord i)) parts.kept) }
+    ensures cause { BodiesCause (D.told past.old.disk) (D.told past.new.disk) result }
+    ensures still { IsPastRead D.told past.old past.new }
+    // Behind all items nothing is read.
+    ensures alone { place ≡ length desk.now.kept.timeline → past.new ≡ past.old }
+{
+    if place == desk.all_items().len() {
+        parts_now(alloc, desk, place)
+    } else {
+        parts_behind(alloc, past, desk, place)
+    }
+}
+
 /// The parts of a cut at a point of a desk.
 fn cut_in<D: Disk>(
     alloc: Global,
@@ -386,6 +530,7 @@ fn cut_in<D: Disk>(
     ensures why { IfErr result (CutsNone desk.now.kept point (D.told journal.old.disk) (D.told journal.new.disk)) }
     ensures ok { OnOk result ((D.told journal.new.disk).failed_reads ≡ (D.told journal.old.disk).failed_reads) }
     ensures still { IsOnlyRead D.told journal.old journal.new }
+    ensures alone { position desk.now.kept.timeline point ≡ Some (length desk.now.kept.timeline) → journal.new ≡ journal.old }
 {
     let Some(place) = position_of(desk.all_items(), point) else {
         return Err(CycleFault::Point { given: point });
@@ -399,10 +544,10 @@ fn cut_in<D: Disk>(
 
 impl<D: Disk> Desk<D> {
     /// What a cut at a point is made of: its past up to there becomes the base of a new journal, and the later items are kept. Each text
-    /// that is asked for is held by this desk. It begins with the newest snapshot at or before the point, and each delivery's text
-    /// behind that is read, once; at `Disk` a read failed, and a later call may succeed. Nothing changes, and nothing is written. In
-    /// time that grows as the search for the point, the mailboxes, the bodies times the logarithm of their number, the items, and
-    /// these texts.
+    /// that is asked for is held by this desk. At the last item its store is at hand. Else it begins with the newest snapshot at or
+    /// before the point, and where a filter may look at a text each delivery's text behind that is read, once; at `Disk` a read
+    /// failed, and a later call may succeed. Nothing changes, and nothing is written. In time that grows as the search for the point,
+    /// the mailboxes, the bodies times the logarithm of their number, the items, and these texts.
     pub fn cut_parts(&mut self, alloc: Global, point: u32) -> Result<CutParts, CycleFault>
         ensures parts { IfOk result (Cuts self.old.kept point (HoldsTexts D.told self.old)) }
         ensures bodies { IfOk result (λ parts. IsTrue (list_all (has_text_kept self.new.kept) parts.bodies)) }
@@ -411,6 +556,8 @@ impl<D: Disk> Desk<D> {
         ensures why { IfErr result (CutsNone self.old.kept point (D.told self.old.disk) (D.told self.new.disk)) }
         ensures ok { OnOk result ((D.told self.new.disk).failed_reads ≡ (D.told self.old.disk).failed_reads) }
         ensures still { IsStill D.told self.old self.new }
+        // At the last item nothing is read.
+        ensures alone { position self.old.kept.timeline point ≡ Some (length self.old.kept.timeline) → self.new ≡ self.old }
     {
         cut_in(alloc, &mut self.journal, &self.desk, point)
     }

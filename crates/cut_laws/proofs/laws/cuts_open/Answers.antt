@@ -26,3 +26,7 @@ pub returns-clause-opens : goal.returns-clause-opens
 returns-clause-opens c = λ records kept place is written.
     opens_as kept place written c.cuts_are_journals.ensures.stands
     (c.cuts_of_journals_open.ensures records kept place is (returns-clause-spelled c records kept place is written))
+
+pub returns-clause-whole : goal.returns-clause-whole
+returns-clause-whole c = λ image kept place parts opens are items framed.
+    returns-clause-opens c opens.records kept place opens.state_is (returns-clause-written c kept place parts are items framed)

@@ -1,10 +1,12 @@
-use Rattle.std.proofs.Common.{◌∙◌, ℕ, List, length, subst, sym, ap}
+use Rattle.std.proofs.Common.{◌∙◌, ℕ, false, List, length, subst, sym, ap}
 use Rattle.seal_log.specs.Journal.{sealed}
 use Rattle.seal_log.specs.Loading.{places_from}
 use Rattle.desk_journal.specs.Going.{read_on}
 use Rattle.desk_journal.specs.Records.{payloads_of}
 use Rattle.desk_journal.specs.Stored.{TextsHeld}
+use Rattle.time_desk.specs.Standing.{FrontBreaksFor}
 use Rattle.time_desk.proofs.Judging.{breaks_none, found_behind, not_damaged}
+use Rattle.time_desk.proofs.Unread.{breaks_unread, found_unread, told_of_all}
 use Rattle.time_desk.proofs.Standings.{if_ok}
 use Rattle.time_desk.proofs.audit.first_false_of.Goals as goal
 
@@ -23,3 +25,20 @@ pub returns-in-Err-Damaged-clause-found : goal.returns-in-Err-Damaged-clause-fou
 returns-in-Err-Damaged-clause-found g c records kept is held are =
     not_damaged c.in-Err-Damaged.field-0 c.in-Err-Damaged.place c.in-Err-Damaged.field-0-is
     (breaks_none c.one_spelling.ensures.one_record records kept c.args.past.now.end c.in-Err-Damaged.field-0 is (c.in-Err-Damaged.ensures.bad (payloads_of records) held are))
+
+pub returns-in-Ok-clause-unread : goal.returns-in-Ok-clause-unread
+returns-in-Ok-clause-unread g c payloads records u held are =
+    let o = c.in-Ok.ensures.opened payloads held are in
+    let f = found_unread c.one_spelling.ensures.one_record payloads records c.in-Ok.desk.kept _ u o in
+    let texts = subst (λ (ps : List (List ℕ)). TextsHeld (g.D.Disk.told c.begin_at.new.past.disk) ps c.in-Ok.desk.kept c.in-Ok.desk.notes c.in-Ok.desk.marks) o.split (c.in-Ok.ensures.texts payloads held are) in
+    if_ok c.first_false.result _ _ (λ found is. told_of_all records o.records o.others c.in-Ok.desk.kept found f is)
+    (c.first_false.ensures.unread (payloads_of o.records) o.others f.more texts (c.after.ensures ∙ o.places_are) f.leads)
+
+pub returns-in-Err-Damaged-clause-unread : goal.returns-in-Err-Damaged-clause-unread
+returns-in-Err-Damaged-clause-unread g c payloads records u held are =
+    breaks_unread c.one_spelling.ensures.one_record payloads records c.args.past.now.end c.in-Err-Damaged.place u
+    (subst (FrontBreaksFor false c.args.past.now.end payloads) c.in-Err-Damaged.field-0-is (c.in-Err-Damaged.ensures.bad payloads held are))
+
+pub returns-in-Err-NotFormatted-clause-unread : goal.returns-in-Err-NotFormatted-clause-unread
+returns-in-Err-NotFormatted-clause-unread g c payloads records u held are =
+    absurd (subst (FrontBreaksFor false c.args.past.now.end payloads) c.in-Err-NotFormatted.field-0-is (c.in-Err-NotFormatted.ensures.bad payloads held are))

@@ -41,3 +41,8 @@ pub returns-in-Ok-None-clause-judged : goal.returns-in-Ok-None-clause-judged
 returns-in-Ok-None-clause-judged g c payloads what texts lies spelled =
     let wrong : ◌≡◌ {A = Option JournalRecord} None (Some what) = sym c.in-Ok-None.field-0-is ∙ c.in-Ok-None.ensures.read payloads what texts.held lies spelled in
     absurd (cc wrong)
+
+pub returns-in-Ok-Some-clause-unread : goal.returns-in-Ok-Some-clause-unread
+returns-in-Ok-Some-clause-unread g c payloads payload held lies none =
+    let wrong : ◌≡◌ {A = Option JournalRecord} None (Some c.in-Ok-Some.what) = sym (c.in-Ok-Some.ensures.none payloads payload held lies none) ∙ c.in-Ok-Some.field-0-is in
+    absurd (cc wrong)

@@ -15,3 +15,6 @@ returns-in-Err-Damaged-clause-read g c payloads what held lies spelled =
 
 pub returns-in-Err-NotFormatted-clause-read : goal.returns-in-Err-NotFormatted-clause-read
 returns-in-Err-NotFormatted-clause-read g c payloads what held lies spelled = absurd (subst (SpellsNothing (record_bytes what) c.args.place.gate) c.in-Err-NotFormatted.field-0-is (c.in-Err-NotFormatted.ensures.bad payloads (record_bytes what) held lies))
+
+pub returns-in-Ok-clause-none : goal.returns-in-Ok-clause-none
+returns-in-Ok-clause-none g c payloads payload held lies none = absurd (none c.in-Ok.what (c.in-Ok.ensures.read payloads payload held lies))
