@@ -22,40 +22,6 @@ use std::alloc::Global;
 use undo_base::{NoMemory, Users};
 use verb_core::{House, Stamps};
 
-fn obey(
-    alloc: Global,
-    house: &House,
-    store: &Store,
-    stamps: &Stamps,
-    sizes: &Shelf,
-    in_use: &Users,
-    dialog: &mut Dialog,
-    argument: &[u8],
-    command: Command,
-) -> Result<PopOut, NoMemory>
-    requires house { IsTrue (is_house house.now) }
-    requires rising { IsTrue (is_rising stamps.now) }
-    requires stage { IsStage dialog.old.stage }
-    ensures ok { IfOk result (λ out. spec.obey house.now store.now.store stamps.now (size_of sizes.now.notes) in_use.now argument.now dialog.old command ≡ took out dialog.new) }
-    ensures err { OnErr result (dialog.new ≡ dialog.old) }
-{
-    match command {
-        Command::User => give_name(alloc, dialog, argument),
-        Command::Pass => give_password(
-            alloc, house, store, stamps, sizes, in_use, dialog, argument,
-        ),
-        Command::Stat => stat(alloc, dialog),
-        Command::List { message } => list(alloc, Detail::Octets, message, dialog),
-        Command::Retr { message } => retrieve(alloc, store, dialog, message, None),
-        Command::Dele { message } => mark(alloc, message, dialog),
-        Command::Noop => wait(alloc, dialog),
-        Command::Rset => reset(alloc, dialog),
-        Command::Top { message, lines } => retrieve(alloc, store, dialog, message, Some(lines)),
-        Command::Uidl { message } => list(alloc, Detail::UniqueId, message, dialog),
-        Command::Quit => quit(alloc, dialog),
-    }
-}
-
 /// One line of a dialog.
 pub(crate) fn take_line(
     alloc: Global,
@@ -73,18 +39,24 @@ pub(crate) fn take_line(
     ensures ok { IfOk result (λ out. spec.turn house.now store.now.store stamps.now (size_of sizes.now.notes) in_use.now dialog.old line.now ≡ took out dialog.new) }
     ensures err { OnErr result (dialog.new ≡ dialog.old) }
 {
-    match read_command(line) {
-        Ok(command) => obey(
-            alloc,
-            house,
-            store,
-            stamps,
-            sizes,
-            in_use,
-            dialog,
-            argument(line),
-            command,
-        ),
-        Err(refused) => say(alloc, line_refused(refused)),
+    let command = match read_command(line) {
+        Ok(command) => command,
+        Err(refused) => return say(alloc, line_refused(refused)),
+    };
+    match command {
+        Command::User => give_name(alloc, dialog, argument(line)),
+        Command::Pass => {
+            let password = argument(line);
+            give_password(alloc, house, store, stamps, sizes, in_use, dialog, password)
+        }
+        Command::Stat => stat(alloc, dialog),
+        Command::List { message } => list(alloc, Detail::Octets, message, dialog),
+        Command::Retr { message } => retrieve(alloc, store, dialog, message, None),
+        Command::Dele { message } => mark(alloc, message, dialog),
+        Command::Noop => wait(alloc, dialog),
+        Command::Rset => reset(alloc, dialog),
+        Command::Top { message, lines } => retrieve(alloc, store, dialog, message, Some(lines)),
+        Command::Uidl { message } => list(alloc, Detail::UniqueId, message, dialog),
+        Command::Quit => quit(alloc, dialog),
     }
 }

@@ -23,11 +23,10 @@ fn wanted(awaits: &Awaits) -> Wanted
     requires { spec.is_text awaits.now ≡ true }
     ensures { awaits.now ≡ Awaits.Text result }
 {
-    match awaits {
-        Awaits::Text { wanted } => *wanted,
-        Awaits::Nothing => unreachable!(),
-        Awaits::Outcome { pending: _ } => unreachable!(),
-    }
+    let Awaits::Text { wanted } = awaits else {
+        unreachable!()
+    };
+    *wanted
 }
 
 fn one_key(alloc: Global, key: Key) -> Result<Keys, NoMemory>
@@ -170,11 +169,10 @@ fn take_pending(dialog: &mut Dialog) -> Pending
     ensures pending { dialog.old.awaits ≡ Awaits.Outcome result }
     ensures rest { dialog.new ≡ at_rest dialog.old }
 {
-    match mem::replace(&mut dialog.awaits, Awaits::Nothing) {
-        Awaits::Outcome { pending } => pending,
-        Awaits::Nothing => unreachable!(),
-        Awaits::Text { wanted: _ } => unreachable!(),
-    }
+    let Awaits::Outcome { pending } = mem::replace(&mut dialog.awaits, Awaits::Nothing) else {
+        unreachable!()
+    };
+    pending
 }
 
 fn is_login(pending: &Pending) -> bool

@@ -5,12 +5,10 @@ use Rattle.smtp_session.specs.declared.answer.Answer.TheVariants.{TextTooLarge}
 use Rattle.smtp_session.specs.declared.answer.SmtpOut.{SmtpOut}
 use Rattle.smtp_session.specs.declared.answer.SmtpOut.TheVariants.{Say, Mail as Asks}
 use Rattle.smtp_session.specs.declared.dialog.Transaction.{Transaction}
-use Rattle.smtp_session.specs.declared.dialog.Transaction.TheVariants.{Idle, Writing, Due}
+use Rattle.smtp_session.specs.declared.dialog.Transaction.TheVariants.{Idle, Due}
 use Rattle.smtp_session.specs.Answer.{answer_text}
 
--- a transaction with a text ends with its body, or with none where the text was too large
-abbrev pub Ends : List ℕ → Transaction → Option (List ℕ) → SmtpOut → Transaction → Type 0
-Ends host old None out new = (out ≡ Say (answer_text host TextTooLarge)) × (new ≡ Idle)
-Ends host old (Some body) out new =
-    ((path : List ℕ) → (to : List (List ℕ)) → (text : Option (List ℕ)) → old ≡ Writing path to text → out ≡ Asks (Deliver path to body))
-    × (new ≡ Due host)
+-- a text ends with its body, or with none where it was too large: what is said or asked, and the transaction behind it
+abbrev pub Ends : List ℕ → List ℕ → List (List ℕ) → Option (List ℕ) → SmtpOut → Transaction → Type 0
+Ends host path to None out new = (out ≡ Say (answer_text host TextTooLarge)) × (new ≡ Idle)
+Ends host path to (Some body) out new = (out ≡ Asks (Deliver path to body)) × (new ≡ Due host)

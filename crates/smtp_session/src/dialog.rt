@@ -115,10 +115,12 @@ pub(crate) fn take_line(
     ensures err { OnErr result (dialog.new ≡ dialog.old) }
 {
     match &mut dialog.transaction {
-        Transaction::Writing { path, to: _, text } => {
+        Transaction::Writing { path, to, text } => {
             if line.bytes.bytes() == b".".as_slice() {
                 let body = end_draft(alloc, &house.host, at, dialog.client.as_ref(), path, text)?;
-                end_transaction(alloc, &house.host, &mut dialog.transaction, body)
+                let (out, next) = end_transaction(alloc, &house.host, path, to, body)?;
+                dialog.transaction = next;
+                Ok(out)
             } else {
                 push_line(alloc, text, line)?;
                 Ok(SmtpOut::Nothing)
