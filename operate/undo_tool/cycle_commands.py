@@ -74,7 +74,7 @@ def do_withdraw(words: Words) -> int:
         effects, said = withdrawal_told(words.cycle, words.store, words.keep, words.progress)
         words.progress.end()
         print('\n\n'.join([said, *([effects_text(effects, words.all), report_text(effects.report, False, words.all, 'withdrawal')] if effects else [])]) + '\n', file=sys.stderr)
-        confirmed(f'What cycle {words.cycle} dropped or replaced comes back, what it brought in goes, and all work since then stays. Every mail reader is sent away and connects again. Take it back?')
+        confirmed(f'What cycle {words.cycle} dropped or replaced comes back, what it brought in goes, and all work since then stays. Every IMAP and POP3 client is sent away and connects again. Take it back?')
     outcome = withdraw(words.console, words.key or new_key(), words.cycle, words.keep)
     head = 'The key had its report before, and nothing was done now.' if outcome.repeated else f'Cycle {words.cycle} is taken back.'
     show(words, {'report': outcome.report, 'repeated': outcome.repeated, 'kept': outcome.kept}, f'{head}\n{report_text(outcome.report, True, words.all, "withdrawal")}\n\nRequest and report are kept in {outcome.kept}.')
@@ -96,7 +96,7 @@ def confirm(report: dict[str, Any]) -> None:
     users = list(by_user(report))
     shown = f'{", ".join(users[:10])} and {len(users) - 10:,} more' if len(users) > 10 else ', '.join(users)
     who = f'{shown} will get a notice' if users else 'nobody will get a notice'
-    confirmed(f'Every mail reader is sent away and connects again; {who}. Run it?')
+    confirmed(f'Every IMAP and POP3 client is sent away and connects again; {who}. Run it?')
 
 
 # ---- texts that are given back ----

@@ -162,7 +162,7 @@ def run_all(words: Words, stores: list[Served]) -> int:
     if refused:
         raise Trouble(next(iter(refused.values())), f'{", ".join(refused)} would not do it, so none was asked to. Mend that, or take its request out of {words.request}.')
     if not words.yes:
-        print(f'In {counted(len(tried), "store")} every mail reader is sent away and connects again. Run it in all of them ({", ".join(tried)})? Write yes: ', end='', file=sys.stderr, flush=True)
+        print(f'In {counted(len(tried), "store")} every IMAP and POP3 client is sent away and connects again. Run it in all of them ({", ".join(tried)})? Write yes: ', end='', file=sys.stderr, flush=True)
         if sys.stdin.readline().strip().lower() != 'yes':
             raise Trouble(NOT_CONFIRMED, 'Not confirmed: nothing was sent.')
     done = over(words, stores, do_run, True, yes=True, json=False)
