@@ -66,7 +66,7 @@ class Measures:
             if used >= SHARES[0] or self.room < 4 * (1 << 20):
                 said.append(f'The disk of the journal is full to {used:.0f} of a hundred ({self.room:,} octets are left). A record that cannot be written ends the service.')
         if self.connections and sum(self.connections.values()) >= SEATS * 8 // 10:
-            said.append(f'{sum(self.connections.values())} of {SEATS:,} connections are open; further ones wait, the console too.')
+            said.append(f'{sum(self.connections.values())} of {SEATS:,} connections are open; mail programs beyond 984 wait (16 are the console\'s alone).')
         return said
 
     def as_data(self) -> dict[str, Any]:
