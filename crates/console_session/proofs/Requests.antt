@@ -24,7 +24,7 @@ use Rattle.console_http.specs.declared.request.Route.TheVariants as route
 use Rattle.console_http.specs.Requests.{Asks}
 use Rattle.console_http.specs.Routes.{Choice, route_of}
 use Rattle.console_replies.specs.Bodies.{upgraded_data}
-use Rattle.time_desk.specs.Replaying.{plan_reads}
+use Rattle.time_desk.specs.Replaying.{cycle_reads, plan_reads, withdrawal_reads}
 use Rattle.console_session.specs.declared.reply.After.TheVariants.{Closes}
 use Rattle.console_session.specs.declared.reply.Reply.{Reply}
 use Rattle.console_session.specs.Answers.{Answer, answer, body_found, is_text_recorded, pointless, uncycled}
@@ -35,34 +35,38 @@ use Rattle.console_session.proofs.Turns.{turn_at}
 
 -- ---- want of memory before anything is sealed, whatever is chosen
 
-out_of_memory_back : (kept : Kept) (missing : Answer) (what : JournalRecord) (left : Cycled → Kept) (due : Due) → gone_back_under Refused kept missing what left due ≡ out_of_memory kept
-out_of_memory_back kept missing what left (Repeats report) = refl
-out_of_memory_back kept missing what left NoPoint = refl
-out_of_memory_back kept missing what left NoNumbers = refl
-out_of_memory_back kept missing what left (IsDue due) = refl
+out_of_memory_back : (some : Bool) (kept : Kept) (missing : Answer) (what : JournalRecord) (left : Cycled → Kept) (due : Due) → gone_back_under some Refused kept missing what left due ≡ out_of_memory kept
+out_of_memory_back some kept missing what left (Repeats report) = refl
+out_of_memory_back some kept missing what left NoPoint = refl
+out_of_memory_back some kept missing what left NoNumbers = refl
+out_of_memory_back true kept missing what left (IsDue due) = refl
+out_of_memory_back false kept missing what left (IsDue due) = refl
 
-out_of_memory_try : (kept : Kept) (ask : CycleAsk) (due : Due) → tried_under Refused kept ask due ≡ out_of_memory kept
-out_of_memory_try kept ask (Repeats report) = refl
-out_of_memory_try kept ask NoPoint = refl
-out_of_memory_try kept ask NoNumbers = refl
-out_of_memory_try kept ask (IsDue due) = refl
+out_of_memory_try : (some : Bool) (kept : Kept) (ask : CycleAsk) (due : Due) → tried_under some Refused kept ask due ≡ out_of_memory kept
+out_of_memory_try some kept ask (Repeats report) = refl
+out_of_memory_try some kept ask NoPoint = refl
+out_of_memory_try some kept ask NoNumbers = refl
+out_of_memory_try true kept ask (IsDue due) = refl
+out_of_memory_try false kept ask (IsDue due) = refl
 
 out_of_memory_found : {A : Type 0} → (some : Bool) (kept : Kept) (o : Option A) (t : ConsoleTurn) → found_under some Refused kept o t ≡ out_of_memory kept
 out_of_memory_found some kept None t = refl
 out_of_memory_found true kept (Some x) t = refl
 out_of_memory_found false kept (Some x) t = refl
 
-lost_back : (kept : Kept) (missing : Answer) (what : JournalRecord) (left : Cycled → Kept) (due : Due) → gone_back_under Unheard kept missing what left due ≡ lost kept
-lost_back kept missing what left (Repeats report) = refl
-lost_back kept missing what left NoPoint = refl
-lost_back kept missing what left NoNumbers = refl
-lost_back kept missing what left (IsDue due) = refl
+lost_back : (some : Bool) (kept : Kept) (missing : Answer) (what : JournalRecord) (left : Cycled → Kept) (due : Due) → gone_back_under some Unheard kept missing what left due ≡ lost kept
+lost_back some kept missing what left (Repeats report) = refl
+lost_back some kept missing what left NoPoint = refl
+lost_back some kept missing what left NoNumbers = refl
+lost_back true kept missing what left (IsDue due) = refl
+lost_back false kept missing what left (IsDue due) = refl
 
-lost_try : (kept : Kept) (ask : CycleAsk) (due : Due) → tried_under Unheard kept ask due ≡ lost kept
-lost_try kept ask (Repeats report) = refl
-lost_try kept ask NoPoint = refl
-lost_try kept ask NoNumbers = refl
-lost_try kept ask (IsDue due) = refl
+lost_try : (some : Bool) (kept : Kept) (ask : CycleAsk) (due : Due) → tried_under some Unheard kept ask due ≡ lost kept
+lost_try some kept ask (Repeats report) = refl
+lost_try some kept ask NoPoint = refl
+lost_try some kept ask NoNumbers = refl
+lost_try true kept ask (IsDue due) = refl
+lost_try false kept ask (IsDue due) = refl
 
 lost_found : {A : Type 0} → (some : Bool) (kept : Kept) (o : Option A) (t : ConsoleTurn) → found_under some Unheard kept o t ≡ lost kept
 lost_found some kept None t = refl
@@ -77,12 +81,12 @@ out_of_memory_route at kept (route.Body number) = out_of_memory_found (is_text_r
 out_of_memory_route at kept route.Conf = refl
 out_of_memory_route at kept (route.Plan point) = out_of_memory_found (plan_reads kept point) kept (position kept.timeline point) _
 out_of_memory_route at kept (route.Act act) = elim (nat_lt kept.next 4194304) as (λ b. (if b then out_of_memory kept else out_of_memory kept) ≡ out_of_memory kept) [ true ↦ refl | false ↦ refl ]
-out_of_memory_route at kept (route.Cycle ask) = out_of_memory_back kept (pointless ask.point) (Cycle kept.next at ask) (after_cycle kept ask) (cycle_due kept at ask)
-out_of_memory_route at kept (route.Try ask) = out_of_memory_try kept ask (due_anew kept at ask)
+out_of_memory_route at kept (route.Cycle ask) = out_of_memory_back (cycle_reads kept at ask) kept (pointless ask.point) (Cycle kept.next at ask) (after_cycle kept ask) (cycle_due kept at ask)
+out_of_memory_route at kept (route.Try ask) = out_of_memory_try (cycle_reads kept at ask) kept ask (due_anew kept at ask)
 out_of_memory_route at kept route.Snapshot = refl
 out_of_memory_route at kept route.Stop = refl
 out_of_memory_route at kept route.Upgrade = elim kept.deep as (λ b. (if b then out_of_memory kept else out_of_memory kept) ≡ out_of_memory kept) [ true ↦ refl | false ↦ refl ]
-out_of_memory_route at kept (route.Withdraw key of) = out_of_memory_back kept (uncycled of) (Withdraw kept.next at key of) (after_withdrawal kept key) (withdraw_due kept at key of)
+out_of_memory_route at kept (route.Withdraw key of) = out_of_memory_back (withdrawal_reads kept of) kept (uncycled of) (Withdraw kept.next at key of) (after_withdrawal kept key) (withdraw_due kept at key of)
 
 lost_route : (at : ℕ) (kept : Kept) (t : Taken) → routed_under Unheard at kept t ≡ lost kept
 lost_route at kept route.Status = refl
@@ -92,12 +96,12 @@ lost_route at kept (route.Body number) = lost_found (is_text_recorded kept numbe
 lost_route at kept route.Conf = refl
 lost_route at kept (route.Plan point) = lost_found (plan_reads kept point) kept (position kept.timeline point) _
 lost_route at kept (route.Act act) = elim (nat_lt kept.next 4194304) as (λ b. (if b then lost kept else lost kept) ≡ lost kept) [ true ↦ refl | false ↦ refl ]
-lost_route at kept (route.Cycle ask) = lost_back kept (pointless ask.point) (Cycle kept.next at ask) (after_cycle kept ask) (cycle_due kept at ask)
-lost_route at kept (route.Try ask) = lost_try kept ask (due_anew kept at ask)
+lost_route at kept (route.Cycle ask) = lost_back (cycle_reads kept at ask) kept (pointless ask.point) (Cycle kept.next at ask) (after_cycle kept ask) (cycle_due kept at ask)
+lost_route at kept (route.Try ask) = lost_try (cycle_reads kept at ask) kept ask (due_anew kept at ask)
 lost_route at kept route.Snapshot = refl
 lost_route at kept route.Stop = refl
 lost_route at kept route.Upgrade = elim kept.deep as (λ b. (if b then lost kept else lost kept) ≡ lost kept) [ true ↦ refl | false ↦ refl ]
-lost_route at kept (route.Withdraw key of) = lost_back kept (uncycled of) (Withdraw kept.next at key of) (after_withdrawal kept key) (withdraw_due kept at key of)
+lost_route at kept (route.Withdraw key of) = lost_back (withdrawal_reads kept of) kept (uncycled of) (Withdraw kept.next at key of) (after_withdrawal kept key) (withdraw_due kept at key of)
 
 out_of_memory_choice : (at : ℕ) (kept : Kept) (c : Choice) → hindered Refused at kept (chosen c) ≡ out_of_memory kept
 out_of_memory_choice at kept (Ok t) = out_of_memory_route at kept t
@@ -179,17 +183,17 @@ ends_acted h at kept act =
       | false ↦ ends_told h kept _ refl
     ]
 
-ends_back : (h : Hindrance) (kept : Kept) (missing : Answer) (what : JournalRecord) (left : Cycled → Kept) (due : Due) → EndsSo (gone_back_under h kept missing what left due)
-ends_back h kept missing what left (Repeats report) = ends_told h kept _ refl
-ends_back h kept missing what left NoPoint = ends_told h kept _ refl
-ends_back h kept missing what left NoNumbers = ends_told h kept _ refl
-ends_back h kept missing what left (IsDue due) = ends_rewound h kept _ _ refl refl
+ends_back : (some : Bool) (h : Hindrance) (kept : Kept) (missing : Answer) (what : JournalRecord) (left : Cycled → Kept) (due : Due) → EndsSo (gone_back_under some h kept missing what left due)
+ends_back some h kept missing what left (Repeats report) = ends_told h kept _ refl
+ends_back some h kept missing what left NoPoint = ends_told h kept _ refl
+ends_back some h kept missing what left NoNumbers = ends_told h kept _ refl
+ends_back some h kept missing what left (IsDue due) = ends_rewound (where_read some h) kept _ _ refl refl
 
-ends_tried : (h : Hindrance) (kept : Kept) (ask : CycleAsk) (due : Due) → EndsSo (tried_under h kept ask due)
-ends_tried h kept ask (Repeats report) = ends_told h kept _ refl
-ends_tried h kept ask NoPoint = ends_told h kept _ refl
-ends_tried h kept ask NoNumbers = ends_told h kept _ refl
-ends_tried h kept ask (IsDue due) = ends_read h kept _ refl
+ends_tried : (some : Bool) (h : Hindrance) (kept : Kept) (ask : CycleAsk) (due : Due) → EndsSo (tried_under some h kept ask due)
+ends_tried some h kept ask (Repeats report) = ends_told h kept _ refl
+ends_tried some h kept ask NoPoint = ends_told h kept _ refl
+ends_tried some h kept ask NoNumbers = ends_told h kept _ refl
+ends_tried some h kept ask (IsDue due) = ends_read (where_read some h) kept _ refl
 
 ends_upgraded : (h : Hindrance) (at : ℕ) (kept : Kept) → EndsSo (upgraded_under h at kept)
 ends_upgraded h at kept =
@@ -206,12 +210,12 @@ ends_routed h at kept (route.Body number) = ends_found (is_text_recorded kept nu
 ends_routed h at kept route.Conf = ends_told h kept _ refl
 ends_routed h at kept (route.Plan point) = ends_found (plan_reads kept point) h kept (position kept.timeline point) _ refl
 ends_routed h at kept (route.Act act) = ends_acted h at kept act
-ends_routed h at kept (route.Cycle ask) = ends_back h kept (pointless ask.point) (Cycle kept.next at ask) (after_cycle kept ask) (cycle_due kept at ask)
-ends_routed h at kept (route.Try ask) = ends_tried h kept ask (due_anew kept at ask)
+ends_routed h at kept (route.Cycle ask) = ends_back (cycle_reads kept at ask) h kept (pointless ask.point) (Cycle kept.next at ask) (after_cycle kept ask) (cycle_due kept at ask)
+ends_routed h at kept (route.Try ask) = ends_tried (cycle_reads kept at ask) h kept ask (due_anew kept at ask)
 ends_routed h at kept route.Snapshot = ends_sealed h kept _ _ refl refl
 ends_routed h at kept route.Stop = ends_told h kept _ refl
 ends_routed h at kept route.Upgrade = ends_upgraded h at kept
-ends_routed h at kept (route.Withdraw key of) = ends_back h kept (uncycled of) (Withdraw kept.next at key of) (after_withdrawal kept key) (withdraw_due kept at key of)
+ends_routed h at kept (route.Withdraw key of) = ends_back (withdrawal_reads kept of) h kept (uncycled of) (Withdraw kept.next at key of) (after_withdrawal kept key) (withdraw_due kept at key of)
 
 ends_so : (h : Hindrance) (at : ℕ) (kept : Kept) (asked : Result Asked HttpRefused) → EndsSo (hindered h at kept asked)
 ends_so h at kept (Ok NotYet) = refl

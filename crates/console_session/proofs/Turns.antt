@@ -58,8 +58,9 @@ pub record WantsSo (f : Hindrance → ConsoleTurn) (kept : Kept) : Type 0 where
 sealed_wants : (kept : Kept) (t u : ConsoleTurn) → WantsSo (λ h. sealed_under h kept t u) kept
 sealed_wants kept t u = record { told_is = refl; lost_is = refl; written_is = refl; unheard_is = refl }
 
-pub rewound_wants : (kept : Kept) (t u : ConsoleTurn) → WantsSo (λ h. rewound_under h kept t u) kept
-rewound_wants kept t u = record { told_is = refl; lost_is = refl; written_is = refl; unheard_is = refl }
+pub rewound_wants : (some : Bool) (kept : Kept) (t u : ConsoleTurn) → WantsSo (λ h. rewound_under (where_read some h) kept t u) kept
+rewound_wants true kept t u = record { told_is = refl; lost_is = refl; written_is = refl; unheard_is = refl }
+rewound_wants false kept t u = record { told_is = refl; lost_is = refl; written_is = refl; unheard_is = refl }
 
 module _ {D : Type 0} (told : D → DiskTold) where
   -- a desk of which the disk was only read sealed nothing
@@ -157,11 +158,6 @@ module _ {D : Type 0} (told : D → DiskTold) where
   pub lost_unread : Still → (old new : Lasting D) (r : Reply) → IsStill told old new → ReadFailed (told old.disk) (told new.disk) → r ≡ reply [] Closes
       → IsTurn told (behind_a_read (lost old.kept)) old new r
   lost_unread still old new r same failed e = record { reply_is = e; kept = same.kept; seals = still old new same; read = reads_ill old new failed; out_of_memory = none_out_of_memory old new same.reads.finds_memory }
-
-  -- where some may be to be read, the disk is to hold them
-  pub held_of : (old : Lasting D) → HoldsTexts told old ⊎ (true ≡ false) → HoldsTexts told old
-  held_of old (inl holds) = holds
-  held_of old (inr wrong) = absurd (true≢false wrong)
 
   -- an answer that is made of texts, or a text that could not be read
   pub read_turn : Still → (some : Bool) (due : Answer) (old new : Lasting D) (r : Reply) → IsStill told old new → TellsRead told some due old new r

@@ -17,7 +17,7 @@ use Rattle.console_head.specs.Request.{Says, Stage}
 use Rattle.console_http.specs.declared.request.Route.{Route}
 use Rattle.console_http.specs.declared.request.Route.TheVariants as route
 use Rattle.console_http.specs.Routes.{Choice, route_of}
-use Rattle.time_desk.specs.Replaying.{plan_reads}
+use Rattle.time_desk.specs.Replaying.{cycle_reads, plan_reads, withdrawal_reads}
 use Rattle.console_session.specs.declared.reply.After.TheVariants.{Closes, Fails, Rewinds as IsRewound, Stops, Upgrades, Waits}
 use Rattle.console_session.specs.declared.reply.Reply.{Reply}
 use Rattle.console_replies.specs.Bodies.{upgraded_data}
@@ -112,17 +112,17 @@ act_ends h at kept act = by_left (nat_lt kept.next 4194304)
     by_left true = sealed_ends h kept (done at kept act) (failed kept (Operator kept.next at act)) closing failing
     by_left false = told_ends h kept (numberless kept) closing
 
-back_ends : (h : Hindrance) (kept : Kept) (missing : Answer) (what : JournalRecord) (left : Cycled → Kept) (due : Due) → Ends (gone_back_under h kept missing what left due)
-back_ends h kept missing what left (Repeats report) = told_ends h kept _ closing
-back_ends h kept missing what left NoPoint = told_ends h kept _ closing
-back_ends h kept missing what left NoNumbers = told_ends h kept _ closing
-back_ends h kept missing what left (Rewinds due) = rewound_ends h kept _ _ rewinding failing
+back_ends : (some : Bool) (h : Hindrance) (kept : Kept) (missing : Answer) (what : JournalRecord) (left : Cycled → Kept) (due : Due) → Ends (gone_back_under some h kept missing what left due)
+back_ends some h kept missing what left (Repeats report) = told_ends h kept _ closing
+back_ends some h kept missing what left NoPoint = told_ends h kept _ closing
+back_ends some h kept missing what left NoNumbers = told_ends h kept _ closing
+back_ends some h kept missing what left (Rewinds due) = rewound_ends (where_read some h) kept _ _ rewinding failing
 
-try_ends : (h : Hindrance) (kept : Kept) (ask : CycleAsk) (due : Due) → Ends (tried_under h kept ask due)
-try_ends h kept ask (Repeats report) = told_ends h kept _ closing
-try_ends h kept ask NoPoint = told_ends h kept _ closing
-try_ends h kept ask NoNumbers = told_ends h kept _ closing
-try_ends h kept ask (Rewinds due) = read_ends h kept _ closing
+try_ends : (some : Bool) (h : Hindrance) (kept : Kept) (ask : CycleAsk) (due : Due) → Ends (tried_under some h kept ask due)
+try_ends some h kept ask (Repeats report) = told_ends h kept _ closing
+try_ends some h kept ask NoPoint = told_ends h kept _ closing
+try_ends some h kept ask NoNumbers = told_ends h kept _ closing
+try_ends some h kept ask (Rewinds due) = read_ends (where_read some h) kept _ closing
 
 upgrade_ends : (h : Hindrance) (at : ℕ) (kept : Kept) → Ends (upgraded_under h at kept)
 upgrade_ends h at kept = by_deep kept.deep
@@ -139,12 +139,12 @@ route_ends h at kept (route.Body number) = found_ends (is_text_recorded kept num
 route_ends h at kept route.Conf = told_ends h kept _ closing
 route_ends h at kept (route.Plan point) = found_ends (plan_reads kept point) h kept (position kept.timeline point) _ closing
 route_ends h at kept (route.Act act) = act_ends h at kept act
-route_ends h at kept (route.Cycle ask) = back_ends h kept (pointless ask.point) (Cycle kept.next at ask) (after_cycle kept ask) (cycle_due kept at ask)
-route_ends h at kept (route.Try ask) = try_ends h kept ask (due_anew kept at ask)
+route_ends h at kept (route.Cycle ask) = back_ends (cycle_reads kept at ask) h kept (pointless ask.point) (Cycle kept.next at ask) (after_cycle kept ask) (cycle_due kept at ask)
+route_ends h at kept (route.Try ask) = try_ends (cycle_reads kept at ask) h kept ask (due_anew kept at ask)
 route_ends h at kept route.Snapshot = sealed_ends h kept _ _ closing failing
 route_ends h at kept route.Stop = told_ends h kept _ stopping
 route_ends h at kept route.Upgrade = upgrade_ends h at kept
-route_ends h at kept (route.Withdraw key of) = back_ends h kept (uncycled of) (Withdraw kept.next at key of) (after_withdrawal kept key) (withdraw_due kept at key of)
+route_ends h at kept (route.Withdraw key of) = back_ends (withdrawal_reads kept of) h kept (uncycled of) (Withdraw kept.next at key of) (after_withdrawal kept key) (withdraw_due kept at key of)
 
 -- a turn behind which more bytes are waited for is that of bytes that are not yet a request
 pub waits_for_more : (house : House) (h : Hindrance) (at : ℕ) (kept : Kept) (stage : Stage) → (hindered h at kept (asked_of house stage)).after ≡ Waits → stage ≡ Ok None

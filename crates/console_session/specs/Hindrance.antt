@@ -11,7 +11,7 @@ use Rattle.cycle_rules.specs.Withdrawals.{after_withdrawal, withdraw_due}
 use Rattle.repair_desk.specs.Repairs.{position}
 use Rattle.desk_journal.specs.Reading.{failed_once, none_read, wrong_once}
 use Rattle.desk_journal.specs.Records.{snapshot_record}
-use Rattle.time_desk.specs.Replaying.{plan_reads}
+use Rattle.time_desk.specs.Replaying.{cycle_reads, plan_reads, withdrawal_reads}
 use Rattle.console_http.specs.declared.request.Asked.{Asked}
 use Rattle.console_http.specs.declared.request.Asked.TheVariants.{NotYet, Whole}
 use Rattle.console_http.specs.declared.request.HttpRefused.{HttpRefused}
@@ -165,25 +165,25 @@ abbrev pub acted_under : Hindrance → ℕ → Kept → Act → ConsoleTurn
 acted_under h at kept act =
     if nat_lt kept.next 4194304 then sealed_under h kept (done at kept act) (failed kept (Operator kept.next at act)) else told_under h kept (numberless kept)
 
--- what becomes of a request for a cycle or a withdrawal, by what is due to it
-abbrev pub gone_back_under : Hindrance → Kept → Answer → JournalRecord → (Cycled → Kept) → Due → ConsoleTurn
-gone_back_under h kept missing what left (Repeats report) = told_under h kept (reported kept report)
-gone_back_under h kept missing what left NoPoint = told_under h kept (tells missing Closes kept)
-gone_back_under h kept missing what left NoNumbers = told_under h kept (numberless kept)
-gone_back_under h kept missing what left (Rewinds due) = rewound_under h kept (rewound kept what left due) (failed kept what)
+-- what becomes of a request for a cycle or a withdrawal, by what is due to it, and whether something may be to be read for it
+abbrev pub gone_back_under : Bool → Hindrance → Kept → Answer → JournalRecord → (Cycled → Kept) → Due → ConsoleTurn
+gone_back_under some h kept missing what left (Repeats report) = told_under h kept (reported kept report)
+gone_back_under some h kept missing what left NoPoint = told_under h kept (tells missing Closes kept)
+gone_back_under some h kept missing what left NoNumbers = told_under h kept (numberless kept)
+gone_back_under some h kept missing what left (Rewinds due) = rewound_under (where_read some h) kept (rewound kept what left due) (failed kept what)
 
 abbrev pub cycled_under : Hindrance → ℕ → Kept → CycleAsk → Due → ConsoleTurn
-cycled_under h at kept ask due = gone_back_under h kept (pointless ask.point) (Cycle kept.next at ask) (after_cycle kept ask) due
+cycled_under h at kept ask due = gone_back_under (cycle_reads kept at ask) h kept (pointless ask.point) (Cycle kept.next at ask) (after_cycle kept ask) due
 
 abbrev pub withdrawn_under : Hindrance → ℕ → Kept → List ℕ → ℕ → Due → ConsoleTurn
-withdrawn_under h at kept key of due = gone_back_under h kept (uncycled of) (Withdraw kept.next at key of) (after_withdrawal kept key) due
+withdrawn_under h at kept key of due = gone_back_under (withdrawal_reads kept of) h kept (uncycled of) (Withdraw kept.next at key of) (after_withdrawal kept key) due
 
 -- what becomes of a cycle that is only tried
-abbrev pub tried_under : Hindrance → Kept → CycleAsk → Due → ConsoleTurn
-tried_under h kept ask (Repeats report) = told_under h kept (reported kept report)
-tried_under h kept ask NoPoint = told_under h kept (tells (pointless ask.point) Closes kept)
-tried_under h kept ask NoNumbers = told_under h kept (numberless kept)
-tried_under h kept ask (Rewinds due) = read_under h kept (reported kept due.report)
+abbrev pub tried_under : Bool → Hindrance → Kept → CycleAsk → Due → ConsoleTurn
+tried_under some h kept ask (Repeats report) = told_under h kept (reported kept report)
+tried_under some h kept ask NoPoint = told_under h kept (tells (pointless ask.point) Closes kept)
+tried_under some h kept ask NoNumbers = told_under h kept (numberless kept)
+tried_under some h kept ask (Rewinds due) = read_under (where_read some h) kept (reported kept due.report)
 
 -- what becomes of an upgrade; where the store was upgraded before nothing is to be sealed
 abbrev pub upgraded_under : Hindrance → ℕ → Kept → ConsoleTurn
@@ -199,7 +199,7 @@ routed_under h at kept route.Conf = told_under h kept (routed at kept route.Conf
 routed_under h at kept (route.Plan point) = found_under (plan_reads kept point) h kept (position kept.timeline point) (routed at kept (route.Plan point))
 routed_under h at kept (route.Act act) = acted_under h at kept act
 routed_under h at kept (route.Cycle ask) = cycled_under h at kept ask (cycle_due kept at ask)
-routed_under h at kept (route.Try ask) = tried_under h kept ask (due_anew kept at ask)
+routed_under h at kept (route.Try ask) = tried_under (cycle_reads kept at ask) h kept ask (due_anew kept at ask)
 routed_under h at kept route.Snapshot = sealed_under h kept (kept_as_it_is kept) (failed kept (snapshot_record kept))
 routed_under h at kept route.Stop = told_under h kept (routed at kept route.Stop)
 routed_under h at kept route.Upgrade = upgraded_under h at kept

@@ -21,7 +21,7 @@ use Rattle.stored_items.proofs.Alike.{formed_heard}
 use Rattle.stored_items.proofs.Heard.{handed_on}
 use Rattle.replay_crew.specs.Hearing.{HoldsOf, StoresOf, TellsAll}
 use Rattle.repair_desk.proofs.Everywhere.{rest_of, taken}
-use Rattle.mail_cycle.proofs.Told.{all_held, all_stored, front_told}
+use Rattle.mail_cycle.proofs.Told.{all_held, all_stored}
 use Rattle.store_kept.specs.Kept.{BaseTexts, Kept}
 use Rattle.store_kept.specs.Texts.{all_bodies, has_text_kept, has_text_with, text_before}
 use Rattle.store_kept.proofs.Coming.{brings, text_found}
@@ -98,11 +98,11 @@ between_formed house s count place t same formed =
     subst (λ (h : House). AllByRecursion (IsWellFormed h) (drop count (take place t))) (sym same) (rest_of (IsWellFormed house) count (take place t) (taken (IsWellFormed house) place t formed))
 
 -- their texts are held, and where what is read is what was stored they are theirs
-pub between_held : (told : BodiesTold) (count place : ℕ) (t : List Item) → TellsAll told t → AllByRecursion (HoldsOf told) (drop count (take place t))
-between_held told count place t tells = rest_of (HoldsOf told) count (take place t) (all_held told (take place t) (front_told told place t tells))
+pub between_held : (told : BodiesTold) (count place : ℕ) (t : List Item) → TellsAll told (take place t) → AllByRecursion (HoldsOf told) (drop count (take place t))
+between_held told count place t tells = rest_of (HoldsOf told) count (take place t) (all_held told (take place t) tells)
 
-pub between_stored : (told : BodiesTold) (count place : ℕ) (t : List Item) → told.honest → TellsAll told t → AllByRecursion (StoresOf told) (drop count (take place t))
-between_stored told count place t honest tells = rest_of (StoresOf told) count (take place t) (all_stored told (take place t) honest (front_told told place t tells))
+pub between_stored : (told : BodiesTold) (count place : ℕ) (t : List Item) → told.honest → TellsAll told (take place t) → AllByRecursion (StoresOf told) (drop count (take place t))
+between_stored told count place t honest tells = rest_of (StoresOf told) count (take place t) (all_stored told (take place t) honest tells)
 
 -- each body has a text in what they led to
 pub bodies_behind : BodiesBehind → (kept : Kept) (first : MailStore) (count place : ℕ) (heard : List Item) → count ≤ place → AllByRecursion (IsWellFormed first.house) (drop count (take place kept.timeline))

@@ -1,6 +1,6 @@
 -- What becomes of a request for a cycle, from what a cycle leaves in memory and what became of sealing it.
-use Rattle.std.proofs.Common.{◌≡◌, ◌<◌, ◌≤◌, ◌-◌, ◌∷◌, ◌++◌, ◌∙◌, ◌&&◌, [], ℕ, take, drop, List, Bool, true, false, Option, Some, None, Result, Ok, Err, IfOk, OnOk, inl, inr, map, refl, sym, ap, subst, arith}
-use Rattle.std.specs.Prelude.{◌+◌, OnErr, if◌then◌else◌, is_none, length, IsSome, IsTrue}
+use Rattle.std.proofs.Common.{◌≡◌, ◌⊎◌, ◌||◌, ◌<◌, ◌≤◌, ◌-◌, ◌∷◌, ◌++◌, ◌∙◌, ◌&&◌, [], ℕ, take, drop, List, Bool, true, false, Option, Some, None, Result, Ok, Err, IfOk, OnOk, inl, inr, map, refl, sym, ap, subst, arith}
+use Rattle.std.specs.Prelude.{◌+◌, IsErrOf, OnErr, if◌then◌else◌, is_none, length, IsSome, IsTrue}
 use Rattle.std.proofs.lemmas.List.{take-append-drop}
 use Rattle.cycle_rules.specs.Judging.{shown_after}
 use Rattle.std.proofs.lemmas.Bool.{eq-eqb}
@@ -55,6 +55,8 @@ use Rattle.time_desk.specs.declared.fault.CycleFault.{CycleFault}
 use Rattle.time_desk.specs.declared.fault.CycleFault.TheVariants as cycle_faults
 use Rattle.time_desk.specs.Cycling.{CanBeUndone, CanRework, Cycles, CyclesAs, CyclesBy, CyclesNone, IsCycleOutcomeOf, IsCycled, IsFit, IsTold, Redoes, RedoesCause, RedoesCycle, RenotesAs, Reworks, RunsOutOfMemoryBy, Tries, TriesNone, after_rewound, asked_then, most_begun, most_reworked, most_tried}
 use Rattle.time_desk.specs.Planning.{BodiesCause}
+use Rattle.time_desk.specs.Replaying.{DeliversOn, ToldOr, cycle_reads, delivered_told, repair_reads, some_deliver, some_marked}
+use Rattle.std.specs.Option.{option_map_or}
 use Rattle.mail_desk.specs.Held.{Held}
 use Rattle.mail_desk.specs.Timeline.{SizesOf}
 use Rattle.seal_log.specs.declared.log.Log.{Log}
@@ -69,9 +71,9 @@ use Rattle.desk_journal.specs.Stored.{HoldsTexts, IsFresh, MarksLie, TextsNoted,
 use Rattle.mail_cycle.specs.declared.beginning.Beginning.{Beginning}
 use Rattle.time_desk.specs.Serving.{CanServe, IsNewest, CanBegin, unmarked}
 use Rattle.desk_journal.specs.Submitting.{SealsBytes, SealsNone, SealsNothing}
-use Rattle.desk_journal.specs.Telling.{HoldsHeld, IsOnlyRead, IsPastRead, LeadsOn, reading_told}
-use Rattle.desk_journal.proofs.Telling.{held_on}
-use Rattle.time_desk.proofs.Telling.{bodies_cause, cause_later, honest_as, tells_asked}
+use Rattle.desk_journal.specs.Telling.{HoldsHeld, IsOnlyRead, IsPastRead}
+use Rattle.time_desk.proofs.Telling.{cause_later, tells_asked}
+use Rattle.time_desk.proofs.Delivering.{begun_with, deliveries_cause, deliveries_due, held_or, honest_as, repairs_delivery, repairs_marked}
 use Rattle.desk_journal.proofs.Holding.{noted_later}
 use Rattle.time_desk.proofs.Bounding.{made_length, repaired_few}
 use Rattle.time_desk.proofs.Marking.{made_marks}
@@ -140,6 +142,10 @@ made_weaker kept at repair told more made so is = record {
 pub cycled_weaker : (kept : Kept) (at : ℕ) (ask : CycleAsk) (told more : Type 0) (made : Rewound) → (more → told) → IsCycled kept at ask told made → IsCycled kept at ask more made
 cycled_weaker kept at ask told more made so is = record { place = is.place; is_place = is.is_place; due = is.due; is_made = made_weaker kept at (repair_of kept at ask is.place) told more made so is.is_made }
 
+-- as it is where the disk holds the texts
+pub held_cycled : (kept : Kept) (at : ℕ) (ask : CycleAsk) (told : Type 0) (made : Rewound) → IsCycled kept at ask (ToldOr told (cycle_reads kept at ask)) made → IsCycled kept at ask told made
+held_cycled kept at ask told made is = cycled_weaker kept at ask (ToldOr told (cycle_reads kept at ask)) told made (λ h. inl h) is
+
 -- what is left of a cycle in memory, where the texts were told as they were stored
 pub cycled_redoes : (kept : Kept) (at : ℕ) (ask : CycleAsk) (told : Type 0) (made : Rewound) → IsCycled kept at ask told made → Redoes kept at ask told made
 cycled_redoes kept at ask told made is = (cycled_at kept at ask is.place, is.due, λ t. made_whole kept at (repair_of kept at ask is.place) told made is.is_made t)
@@ -150,17 +156,21 @@ module _ {D : Type 0} (told : D → DiskTold) (held : Held) (t : Task) (task : I
   abbrev Holds : Type 0
   Holds = HoldsHeld (told old.disk) held
 
+  -- or nothing is to be read
+  abbrev Told : Type 0
+  Told = ToldOr Holds (repair_reads held.kept t.repair)
+
   within : t.repair.place ≤ length held.kept.timeline
   within = subst (λ (k : Kept). t.repair.place ≤ length k.timeline) can.kept task.place
 
   -- it is of the desk, whatever is known of its snapshots
-  of_desk : (was : Type 0) (made : Rewound) → (Holds → was) → IsMadeFrom t.kept t.at t.repair first.store.store first.count was made → IsMadeFrom held.kept t.at t.repair first.store.store first.count Holds made
+  of_desk : (was : Type 0) (made : Rewound) → (Told → was) → IsMadeFrom t.kept t.at t.repair first.store.store first.count was made → IsMadeFrom held.kept t.at t.repair first.store.store first.count Told made
   of_desk was made so made_from =
       let is = subst (λ (k : Kept). IsMadeFrom k t.at t.repair first.store.store first.count was made) can.kept made_from in
       record { heard = is.heard; all = is.all; same = λ h. is.same (so h); front = is.front; from = is.from; leaves = is.leaves }
 
-  whole_made : (was : Type 0) (made : Rewound) → (Holds → was) → (Holds → first.store.store ≡ store_at held.kept first.count) → IsMadeFrom t.kept t.at t.repair first.store.store first.count was made
-      → IsMade held.kept t.at t.repair Holds made
+  whole_made : (was : Type 0) (made : Rewound) → (Told → was) → (Told → first.store.store ≡ store_at held.kept first.count) → IsMadeFrom t.kept t.at t.repair first.store.store first.count was made
+      → IsMade held.kept t.at t.repair Told made
   whole_made was made so led made_from = record {
     place = within;
     first = first.store.store;
@@ -173,48 +183,56 @@ module _ {D : Type 0} (told : D → DiskTold) (held : Held) (t : Task) (task : I
   }
 
   -- what came of it
-  pub reworks : (mid : PastTold D) (r s : Reading D) (before after : ℕ) (result : Result Rewound BodiesFault) → BodiesOn → HasBase held.kept
+  pub reworks : (mid : PastTold D) (r s : Reading D) (items : List Item) (before after : ℕ) (result : Result Rewound BodiesFault) → BodiesOn → HasBase held.kept
       → ((heard : List Item) → AllHeard t.repair.items heard → GoesOnAt held.kept (reached_from held.kept t.at t.repair first.store.store first.count heard) (reworked_from held.kept t.at t.repair first.store.store first.count heard))
       → ((heard : List Item) → take first.count heard ≡ take first.count held.kept.timeline → take first.count (timeline_from held.kept t.at t.repair first.store.store first.count heard) ≡ take first.count held.kept.timeline)
-      → (Holds → IsNewest held.kept t.repair.place first) → IsPastRead told old mid → (told mid.disk).failed_reads ≡ (told old.disk).failed_reads
-      → r.past.now ≡ mid → r.desk.now ≡ held → r.failed ≡ 0 → LeadsOn told r s → Counts (reading_told told r) (reading_told told s) result
-      → IfOk result (IsMadeFrom t.kept t.at t.repair first.store.store first.count (reading_told told r).honest)
+      → (Holds → IsNewest held.kept t.repair.place first) → (some_marked held.kept t.repair.place ≡ false → (first.count ≡ 0) × (first.store.store ≡ held.kept.base))
+      → IsPastRead told old mid → (told mid.disk).failed_reads ≡ (told old.disk).failed_reads
+      → r.past.now ≡ mid → r.desk.now ≡ held → r.failed ≡ 0 → DeliversOn told r s t.repair.items items → Counts (delivered_told told r t.repair.items) (delivered_told told s items) result
+      → IfOk result (IsMadeFrom t.kept t.at t.repair first.store.store first.count (delivered_told told r t.repair.items).honest)
       → IfOk result (λ made. after ≤ before + (t.repair.place - first.count) + t.repair.acts + made.report.kept + length made.report.notices)
       → OnErr result (after ≤ before + (t.repair.place - first.count) + t.repair.acts + t.repair.kept + length t.kept.house.accounts)
       → Reworks told held t old s.past.now before after result
-  reworks mid r s before after result bodies base goes front newest still same past_is held_is none leads counts made steps most = record {
+  reworks mid r s items before after result bodies base goes front newest unmarked still same past_is held_is none leads counts made steps most = record {
     made = made_then result made;
     fit = fit_then result made;
     cause = cause_later told (told old.disk) (told mid.disk) (told s.past.now.disk) result same still.reads.reads.reliable
-        (subst (λ (p : PastTold D). BodiesCause (told p.disk) (told s.past.now.disk) result) past_is (bodies_cause told r s result leads none counts));
-    still = read_on told old mid s.past.now still (subst (λ (p : PastTold D). IsPastRead told p s.past.now) past_is leads.reads.still);
+        (subst (λ (p : PastTold D). BodiesCause (told p.disk) (told s.past.now.disk) result) past_is (deliveries_cause told r s t.repair.items items result leads none counts));
+    due = λ failed. repairs_delivery held.kept t.repair (deliveries_due told r s t.repair.items items result leads none counts failed);
+    still = read_on told old mid s.past.now still (subst (λ (p : PastTold D). IsPastRead told p s.past.now) past_is leads.reading.reads.still);
     few = λ h. few_then result made steps h;
     most = λ h. most_then result most h;
     any = any_then result most;
     steps = steps_then result made steps;
   }
     where
-      honest : Holds → (reading_told told r).honest
-      honest h = honest_as told r mid held past_is held_is (held_on (told old.disk) (told mid.disk) held still.reads h)
+      begun : Told → ToldOr (HoldsHeld (told mid.disk) held) (some_deliver t.repair.items) × (first.store.store ≡ store_at held.kept first.count)
+      begun h = begun_with held t.repair.place t.repair.items (told old.disk) (told mid.disk) first still.reads newest unmarked h
 
-      made_then : (x : Result Rewound BodiesFault) → IfOk x (IsMadeFrom t.kept t.at t.repair first.store.store first.count (reading_told told r).honest) → IfOk x (IsMade held.kept t.at t.repair Holds)
-      made_then (Ok m) is = whole_made (reading_told told r).honest m honest (λ h. (newest h).store) is
+      honest : Told → (delivered_told told r t.repair.items).honest
+      honest h = honest_as told r t.repair.items (told mid.disk) held (ap (λ (p : PastTold D). told p.disk) past_is) held_is (begun h).0
+
+      led : Told → first.store.store ≡ store_at held.kept first.count
+      led h = (begun h).1
+
+      made_then : (x : Result Rewound BodiesFault) → IfOk x (IsMadeFrom t.kept t.at t.repair first.store.store first.count (delivered_told told r t.repair.items).honest) → IfOk x (IsMade held.kept t.at t.repair Told)
+      made_then (Ok m) is = whole_made (delivered_told told r t.repair.items).honest m honest led is
       made_then (Err e) is = tt
 
-      fit_then : (x : Result Rewound BodiesFault) → IfOk x (IsMadeFrom t.kept t.at t.repair first.store.store first.count (reading_told told r).honest) → IfOk x (IsFit held.kept)
+      fit_then : (x : Result Rewound BodiesFault) → IfOk x (IsMadeFrom t.kept t.at t.repair first.store.store first.count (delivered_told told r t.repair.items).honest) → IfOk x (IsFit held.kept)
       fit_then (Ok m) made_from =
-          let is = of_desk (reading_told told r).honest m honest made_from in
+          let is = of_desk (delivered_told told r t.repair.items).honest m honest made_from in
           fits held.kept t.at t.repair first.store.store first.count is.heard m bodies base is.from serves.few is.leaves (goes is.heard is.all) within serves.serves (front is.heard is.front)
       fit_then (Err e) made_from = tt
 
       regroup : (a b c d e f : ℕ) → b ≤ a + c + d + e + f → b ≤ a + (c + d + e + f)
       regroup a b c d e f le = omega arith
 
-      few_then : (x : Result Rewound BodiesFault) → IfOk x (IsMadeFrom t.kept t.at t.repair first.store.store first.count (reading_told told r).honest)
+      few_then : (x : Result Rewound BodiesFault) → IfOk x (IsMadeFrom t.kept t.at t.repair first.store.store first.count (delivered_told told r t.repair.items).honest)
           → IfOk x (λ made. after ≤ before + (t.repair.place - first.count) + t.repair.acts + made.report.kept + length made.report.notices) → Holds
           → OnOk x (after ≤ before + most_reworked held.kept t.repair.acts (reworked held.kept t.at t.repair))
       few_then (Ok m) made_from steps h =
-          let leaves = made_whole held.kept t.at t.repair Holds m (whole_made (reading_told told r).honest m honest (λ h. (newest h).store) made_from) h in
+          let leaves = made_whole held.kept t.at t.repair Told m (whole_made (delivered_told told r t.repair.items).honest m honest led made_from) (inl h) in
           let due = reworked held.kept t.at t.repair in
           regroup before after (t.repair.place - newest_at t.repair.place held.kept.marks.places) t.repair.acts due.report.kept (length due.report.notices)
           (subst (λ (report : Report). after ≤ before + (t.repair.place - newest_at t.repair.place held.kept.marks.places) + t.repair.acts + report.kept + length report.notices) leaves.report
@@ -237,11 +255,11 @@ module _ {D : Type 0} (told : D → DiskTold) (held : Held) (t : Task) (task : I
       any_then (Ok m) most = tt
       any_then (Err e) most = omega (arith, task.long, of_house most)
 
-      steps_then : (x : Result Rewound BodiesFault) → IfOk x (IsMadeFrom t.kept t.at t.repair first.store.store first.count (reading_told told r).honest)
+      steps_then : (x : Result Rewound BodiesFault) → IfOk x (IsMadeFrom t.kept t.at t.repair first.store.store first.count (delivered_told told r t.repair.items).honest)
           → IfOk x (λ made. after ≤ before + (t.repair.place - first.count) + t.repair.acts + made.report.kept + length made.report.notices) → IfOk x (λ made. after ≤ before + length (items_left held.kept.timeline made))
       steps_then (Ok m) made_from steps =
-          let is = of_desk (reading_told told r).honest m honest made_from in
-          let items = made_length held.kept t.at t.repair first.store.store first.count Holds m task.long is in
+          let is = of_desk (delivered_told told r t.repair.items).honest m honest made_from in
+          let items = made_length held.kept t.at t.repair first.store.store first.count Told m task.long is in
           omega (arith, items, steps)
       steps_then (Err e) made_from steps = tt
 
@@ -250,15 +268,19 @@ pub cause_of : (T U : Type 0) (old new : DiskTold) (why : BodiesFault) → Bodie
 cause_of T U old new bodies_faults.Failed cause = cause
 cause_of T U old new bodies_faults.NoMemory cause = cause
 
+one_fault : (a b : BodiesFault) → ◌≡◌ {A = Result Rewound BodiesFault} (Err a) (Err b) → a ≡ b
+one_fault a b e = cc
+
 -- nothing was performed: a read failed before, or no memory was found
 pub reworks_none : {D : Type 0} (told : D → DiskTold) (held : Held) (t : Task) (old mid : PastTold D) (steps : ℕ) (result : Result Rewound BodiesFault) (fault why : BodiesFault) → result ≡ Err fault → fault ≡ why
-    → BodiesCause {T = Rewound} (told old.disk) (told mid.disk) (Err why) → IsPastRead told old mid → Reworks told held t old mid steps steps result
-reworks_none told held t old mid steps result fault why is fault_is cause still =
+    → BodiesCause {T = Rewound} (told old.disk) (told mid.disk) (Err why) → (why ≡ bodies_faults.Failed → some_marked held.kept t.repair.place ≡ true) → IsPastRead told old mid → Reworks told held t old mid steps steps result
+reworks_none told held t old mid steps result fault why is fault_is cause marked still =
     let whole : result ≡ Err why = cc (is, fault_is) in
     subst (Reworks told held t old mid steps steps) (sym whole) (record {
       made = tt;
       fit = tt;
       cause = cause;
+      due = λ failed. repairs_marked held.kept t.repair (marked (one_fault why bodies_faults.Failed failed));
       still = still;
       few = λ h. tt;
       most = λ h. omega arith;
@@ -285,7 +307,18 @@ none_read_for disk kept ask due (refusals.Numbers next) is undue = refl
 none_read_for disk kept ask due refusals.Disk is undue = absurd (undue is)
 none_read_for disk kept ask due refusals.NoMemory is undue = refl
 
+-- and none is told of
+pub none_due_for : (kept : Kept) (ask : CycleAsk) (due : Due) (refused : CycleRefused) (some : Bool) → IsRefusalOf kept ask due refused → (IsRewinds due → ⊥) → IsErrOf {T = Rewound} (Err refused) refusals.Disk → IsTrue some
+none_due_for kept ask due (refusals.Point given) some is undue failed = absurd (cc failed)
+none_due_for kept ask due (refusals.Numbers next) some is undue failed = absurd (cc failed)
+none_due_for kept ask due refusals.Disk some is undue failed = absurd (undue is)
+none_due_for kept ask due refusals.NoMemory some is undue failed = absurd (cc failed)
+
 -- ---- a cycle in memory
+
+-- what is to be read for it, by the place of its point
+pub reads_there : (kept : Kept) (at : ℕ) (ask : CycleAsk) (place : ℕ) → position kept.timeline ask.point ≡ Some place → cycle_reads kept at ask ≡ repair_reads kept (repair_of kept at ask place)
+reads_there kept at ask place is = ap (λ (o : Option ℕ). option_map_or (λ (n : ℕ). repair_reads kept (repair_of kept at ask n)) o false) is
 
 -- of what a desk begins with
 pub of_begun : (before kept : Kept) (at : ℕ) (ask : CycleAsk) (t : Task) → before ≡ kept → IsCycle before at ask t → IsCycle kept at ask t
@@ -312,9 +345,10 @@ module _ {D : Type 0} (told : D → DiskTold) (held : Held) (at : ℕ) (ask : Cy
     alone = record {
       cycled = was_cycled;
       fit = done.fit;
-      undone = undone (HoldsHeld (told old.disk) held) was_cycled;
+      undone = undone (ToldOr (HoldsHeld (told old.disk) held) (cycle_reads held.kept at ask)) was_cycled;
       refused = tt;
       cause = done.cause;
+      due = λ failed. absurd (cc failed);
     };
     untouched = tt;
     few = λ due due_is h.
@@ -325,8 +359,14 @@ module _ {D : Type 0} (told : D → DiskTold) (held : Held) (at : ℕ) (ask : Cy
     steps = done.steps;
   }
     where
-      was_cycled : IsCycled held.kept at ask (HoldsHeld (told old.disk) held) made
-      was_cycled = record { place = is.place; is_place = is.is_place; due = is.due; is_made = subst (λ (u : Task). IsMade held.kept u.at u.repair (HoldsHeld (told old.disk) held) made) is.task done.made }
+      was_cycled : IsCycled held.kept at ask (ToldOr (HoldsHeld (told old.disk) held) (cycle_reads held.kept at ask)) made
+      was_cycled = record {
+        place = is.place;
+        is_place = is.is_place;
+        due = is.due;
+        is_made = subst (λ (some : Bool). IsMade held.kept at (repair_of held.kept at ask is.place) (ToldOr (HoldsHeld (told old.disk) held) some) made) (sym (reads_there held.kept at ask is.place is.is_place))
+            (subst (λ (u : Task). IsMade held.kept u.at u.repair (ToldOr (HoldsHeld (told old.disk) held) (repair_reads held.kept u.repair)) made) is.task done.made);
+      }
 
   -- how much of one that failed was performed
   most_failed : (t : Task) (old new : PastTold D) (before after : ℕ) (fault : BodiesFault) → IsCycle (unmarked held.kept) at ask t → Reworks told held t old new before after (Err fault)
@@ -346,7 +386,14 @@ module _ {D : Type 0} (told : D → DiskTold) (held : Held) (at : ℕ) (ask : Cy
   pub cycle_failed : (t : Task) (old new : PastTold D) (same : Type 0) (before after : ℕ) → IsCycle (unmarked held.kept) at ask t → Reworks told held t old new before after (Err bodies_faults.Failed)
       → RedoesCycle told held at ask old.disk new.disk same before after (Err refusals.Disk)
   cycle_failed t old new same before after is done = record {
-    alone = record { cycled = tt; fit = tt; undone = tt; refused = rewinds_due is; cause = done.cause };
+    alone = record {
+      cycled = tt;
+      fit = tt;
+      undone = tt;
+      refused = rewinds_due is;
+      cause = done.cause;
+      due = λ failed. reads_there held.kept at ask is.place is.is_place ∙ subst (λ (u : Task). repair_reads held.kept u.repair ≡ true) is.task (done.due refl);
+    };
     untouched = λ undue. absurd (undue (rewinds_due is));
     few = λ due due_is h. tt;
     most = most_failed t old new before after bodies_faults.Failed is done;
@@ -360,7 +407,7 @@ module _ {D : Type 0} (told : D → DiskTold) (held : Held) (at : ℕ) (ask : Cy
   pub cycle_wanting : (t : Task) (old new : PastTold D) (same : Type 0) (before after : ℕ) → IsCycle (unmarked held.kept) at ask t → Reworks told held t old new before after (Err bodies_faults.NoMemory)
       → RedoesCycle told held at ask old.disk new.disk same before after (Err refusals.NoMemory)
   cycle_wanting t old new same before after is done = record {
-    alone = record { cycled = tt; fit = tt; undone = tt; refused = rewinds_due is; cause = done.cause };
+    alone = record { cycled = tt; fit = tt; undone = tt; refused = rewinds_due is; cause = done.cause; due = λ failed. absurd (cc failed) };
     untouched = λ undue. absurd (undue (rewinds_due is));
     few = λ due due_is h. tt;
     most = most_failed t old new before after bodies_faults.NoMemory is done;
@@ -375,7 +422,14 @@ module _ {D : Type 0} (told : D → DiskTold) (held : Held) (at : ℕ) (ask : Cy
   pub cycle_undue : (disk : D) (same : Type 0) (steps : ℕ) (refused : CycleRefused) → IsRefusalOf (unmarked held.kept) ask (due_anew (unmarked held.kept) at ask) refused → (IsRewinds (due_anew (unmarked held.kept) at ask) → ⊥) → same
       → RedoesCycle told held at ask disk disk same steps steps (Err refused)
   cycle_undue disk same steps refused refusal undue untouched = record {
-    alone = record { cycled = tt; fit = tt; undone = tt; refused = refused_as held.kept ask (due_anew held.kept at ask) refused refusal; cause = none_read_for (told disk) (unmarked held.kept) ask (due_anew (unmarked held.kept) at ask) refused refusal undue };
+    alone = record {
+      cycled = tt;
+      fit = tt;
+      undone = tt;
+      refused = refused_as held.kept ask (due_anew held.kept at ask) refused refusal;
+      cause = none_read_for (told disk) (unmarked held.kept) ask (due_anew (unmarked held.kept) at ask) refused refusal undue;
+      due = none_due_for (unmarked held.kept) ask (due_anew (unmarked held.kept) at ask) refused (cycle_reads held.kept at ask) refusal undue;
+    };
     untouched = λ u. untouched;
     few = λ due due_is h. tt;
     most = λ due due_is h. omega arith;
@@ -533,11 +587,11 @@ steps_kept (Err e) before after items made now steps are = tt
 
 -- why there is no cycle, of a trial
 pub tries_none : (kept : Kept) (at : ℕ) (ask : CycleAsk) (old new : DiskTold) (refused : CycleRefused) (fault : CycleFault) → IsRefusalOf kept ask (due_anew kept at ask) refused
-    → RedoesCause {T = Rewound} old new (Err refused) → IsTold refused fault → TriesNone kept at ask old new fault
-tries_none kept at ask old new (refusals.Point given) fault refusal cause is = subst (TriesNone kept at ask old new) (sym is) (refusal.0, refusal.1, cause)
-tries_none kept at ask old new (refusals.Numbers next) fault refusal cause is = subst (TriesNone kept at ask old new) (sym is) (refusal.0, refusal.1, cause)
-tries_none kept at ask old new refusals.Disk fault refusal cause is = subst (TriesNone kept at ask old new) (sym is) (refusal, cause)
-tries_none kept at ask old new refusals.NoMemory fault refusal cause is = subst (TriesNone kept at ask old new) (sym is) (refusal, cause)
+    → RedoesCause {T = Rewound} old new (Err refused) → (IsErrOf {T = Rewound} (Err refused) refusals.Disk → IsTrue (cycle_reads kept at ask)) → IsTold refused fault → TriesNone kept at ask old new fault
+tries_none kept at ask old new (refusals.Point given) fault refusal cause due is = subst (TriesNone kept at ask old new) (sym is) (refusal.0, refusal.1, cause)
+tries_none kept at ask old new (refusals.Numbers next) fault refusal cause due is = subst (TriesNone kept at ask old new) (sym is) (refusal.0, refusal.1, cause)
+tries_none kept at ask old new refusals.Disk fault refusal cause due is = subst (TriesNone kept at ask old new) (sym is) (refusal, due refl, cause)
+tries_none kept at ask old new refusals.NoMemory fault refusal cause due is = subst (TriesNone kept at ask old new) (sym is) (refusal, cause)
 
 module _ {D : Type 0} (told : D → DiskTold) where
   -- a report of before
@@ -558,7 +612,7 @@ module _ {D : Type 0} (told : D → DiskTold) where
       → new.kept ≡ after_rewound first.kept ask.key true made → Seals told (Cycle first.kept.next at ask ∷ []) [] first new → Cycles told at ask first new report
   cycled at ask first new made report anew red open_ report_is kept_is seals =
       let is = red.is_made in
-      let leaves = made_whole first.kept at (repair_of first.kept at ask is.place) (HoldsTexts told first) made is.is_made in
+      let leaves = made_whole first.kept at (repair_of first.kept at ask is.place) (ToldOr (HoldsTexts told first) (cycle_reads first.kept at ask)) made is.is_made in
       subst (CyclesBy told at ask first new report) (sym (due_new first.kept at ask anew ∙ is.due)) (
         open_,
         λ holds. (report_is ∙ (leaves holds).report, kept_is ∙ sym (after_is first.kept at ask is.place made (leaves holds))),
@@ -583,16 +637,17 @@ module _ {D : Type 0} (told : D → DiskTold) where
   -- no cycle in memory
   pub refused : (at : ℕ) (ask : CycleAsk) (old new : Lasting D) (why : CycleRefused) (out : CycleFault) → IsStill told old new → SealsNothing told old new
       → ((IsRewinds (due_anew old.kept at ask) → ⊥) → new ≡ old) → report_of old.kept.reports ask.key ≡ None → old.closed ≡ false
-      → IsRefusalOf old.kept ask (due_anew old.kept at ask) why → RedoesCause {T = Rewound} (told old.disk) (told new.disk) (Err why) → IsTold why out → CyclesNone told at ask old new out
-  refused at ask old new (refusals.Point given) out still nothing untouched anew open_ refusal cause is =
+      → IsRefusalOf old.kept ask (due_anew old.kept at ask) why → RedoesCause {T = Rewound} (told old.disk) (told new.disk) (Err why) → (IsErrOf {T = Rewound} (Err why) refusals.Disk → IsTrue (cycle_reads old.kept at ask))
+      → IsTold why out → CyclesNone told at ask old new out
+  refused at ask old new (refusals.Point given) out still nothing untouched anew open_ refusal cause due is =
       subst (CyclesNone told at ask old new) (sym is)
       (open_, due_new old.kept at ask anew ∙ refusal.0, refusal.1, untouched (λ due. subst IsRewinds refusal.0 due))
-  refused at ask old new (refusals.Numbers next) out still nothing untouched anew open_ refusal cause is =
+  refused at ask old new (refusals.Numbers next) out still nothing untouched anew open_ refusal cause due is =
       subst (CyclesNone told at ask old new) (sym is)
       (open_, due_new old.kept at ask anew ∙ refusal.0, refusal.1, untouched (λ due. subst IsRewinds refusal.0 due))
-  refused at ask old new refusals.Disk out still nothing untouched anew open_ refusal cause is =
-      subst (CyclesNone told at ask old new) (sym is) (open_, inr (subst IsRewinds (sym (due_new old.kept at ask anew)) refusal, still, cause))
-  refused at ask old new refusals.NoMemory out still nothing untouched anew open_ refusal cause is =
+  refused at ask old new refusals.Disk out still nothing untouched anew open_ refusal cause due is =
+      subst (CyclesNone told at ask old new) (sym is) (open_, inr (subst IsRewinds (sym (due_new old.kept at ask anew)) refusal, due refl, still, cause))
+  refused at ask old new refusals.NoMemory out still nothing untouched anew open_ refusal cause due is =
       subst (CyclesNone told at ask old new) (sym is) (subst (RunsOutOfMemoryBy told old new) (sym (due_new old.kept at ask anew)) (by_due (due_anew old.kept at ask) refusal))
     where
       by_due : (due : Due) → IsRewinds due → RunsOutOfMemoryBy told old new due
@@ -607,6 +662,9 @@ module _ {D : Type 0} (told : D → DiskTold) (disk : D) (before after : Held) (
   -- the desk before texts were read
   abbrev First : Lasting D
   First = lasting before (record old { disk = disk })
+
+  abbrev Told : Type 0
+  Told = ToldOr (HoldsTexts told First) (cycle_reads before.kept at ask)
 
   module _ (red : CyclesAs told First at ask made) (anew : report_of before.kept.reports ask.key ≡ None) (bytes_are : bytes ≡ record_bytes (Cycle before.kept.next at ask))
       (spelled : is_spelled (Cycle before.kept.next at ask) ≡ true) (known : are_known before.kept.house ask.inserts ≡ true) (open_ : old.closed ≡ false) where
@@ -624,18 +682,18 @@ module _ {D : Type 0} (told : D → DiskTold) (disk : D) (before after : Held) (
         left_is : HoldsTexts told First → after_cycle before.kept ask (cycled_at before.kept at ask red.is_made.place) ≡ after.kept
         left_is holds =
             let is = red.is_made in
-            after_is before.kept at ask is.place made (made_whole before.kept at (repair_of before.kept at ask is.place) (HoldsTexts told First) made is.is_made holds) ∙ sym kept_is
+            after_is before.kept at ask is.place made (made_whole before.kept at (repair_of before.kept at ask is.place) Told made is.is_made (inl holds)) ∙ sym kept_is
 
         marked : HoldsTexts told First → (payloads : List (List ℕ)) → LiesAt payloads old.gate (length bytes) bytes → IsRun before.kept → MarksLie payloads before.kept before.marks → MarksLie payloads after.kept after.marks
         marked holds payloads at_place runs all = subst (MarksLie payloads after.kept) (sym marks_are)
-            (made_marks payloads before.kept after.kept at ask (HoldsTexts told First) made before.marks holds red.is_made (ap (λ (k : Kept). k.base) kept_is) (ap (λ (k : Kept). k.timeline) kept_is) all)
+            (made_marks payloads before.kept after.kept at ask Told made before.marks (inl holds) red.is_made (ap (λ (k : Kept). k.base) kept_is) (ap (λ (k : Kept). k.timeline) kept_is) all)
 
         lies : HoldsTexts told First → (payloads : List (List ℕ)) → LiesAt payloads old.gate (length bytes) bytes → TextsStored payloads before.notes before.kept → TextsStored payloads after.notes after.kept
         lies holds payloads at_place all =
             let where_ : Place = record { gate = old.gate; length = length bytes } in
             let whole = sound holds.texts.runs in
-            put_lies before after at ask (HoldsTexts told First) made where_ bytes renotes.fresh (subst (λ (b : List ℕ). IsFresh before.kept.next at ask where_ b renotes.fresh) (sym bytes_are) renotes.is_fresh)
-            red.is_made fit.timeline.apart ask.key kept_is sizes whole.base whole.timeline.apart whole.below whole.undone renotes.renotes payloads at_place holds holds.texts.revs holds.texts.back all
+            put_lies before after at ask Told made where_ bytes renotes.fresh (subst (λ (b : List ℕ). IsFresh before.kept.next at ask where_ b renotes.fresh) (sym bytes_are) renotes.is_fresh)
+            red.is_made fit.timeline.apart ask.key kept_is sizes whole.base whole.timeline.apart whole.below whole.undone renotes.renotes payloads at_place (inl holds) holds.texts.revs holds.texts.back all
 
     -- it was not
     pub cycle_unsealed : {X : Type 0} (fault : SealFault) (out : CycleFault) → SealsBytes {X = X} told bytes old new (Err fault) → (told old.disk).failed_reads ≡ (told disk).failed_reads → after.kept ≡ before.kept → after.notes ≡ before.notes → after.marks ≡ before.marks → IsCycleOutcomeOf fault out
@@ -658,22 +716,22 @@ module _ {D : Type 0} (told : D → DiskTold) where
   pub read_from : (held : Held) (old new : JournalTold D) → IsOnlyRead told old new → lasting held (record new { disk = old.disk }) ≡ lasting held old
   read_from held old new still = λ j. record { kept = held.kept; notes = held.notes; marks = held.marks; room = held.room; disk = old.disk; gate = still.gate j; closed = still.closed j }
 
-  -- the disk holds the texts of what is in memory
-  pub holds_held : (held : Held) (journal : JournalTold D) → HoldsTexts told (lasting held journal) → HoldsHeld (told journal.disk) held
-  holds_held held journal holds = (holds.payloads, holds.texts)
-
-  pub cycles_as : (held : Held) (old new : JournalTold D) (at : ℕ) (ask : CycleAsk) (made : Rewound) → IsCycled held.kept at ask (HoldsHeld (told old.disk) held) made
+  -- what is in memory was made from a first desk on
+  pub cycles_as : (held : Held) (old new : JournalTold D) (at : ℕ) (ask : CycleAsk) (made : Rewound) → IsCycled held.kept at ask (ToldOr (HoldsHeld (told old.disk) held) (cycle_reads held.kept at ask)) made
       → CyclesAs told (lasting held (record new { disk = old.disk })) at ask made
   cycles_as held old new at ask made is =
-      let now = cycled_weaker held.kept at ask (HoldsHeld (told old.disk) held) (HoldsTexts told (lasting held (record new { disk = old.disk }))) made (holds_held held (record new { disk = old.disk })) is in
-      record { redoes = cycled_redoes held.kept at ask (HoldsTexts told (lasting held (record new { disk = old.disk }))) made now; is_made = now }
+      let some = cycle_reads held.kept at ask in
+      let First : Type 0 = ToldOr (HoldsTexts told (lasting held (record new { disk = old.disk }))) some in
+      let now = cycled_weaker held.kept at ask (ToldOr (HoldsHeld (told old.disk) held) some) First made (held_or told held (record new { disk = old.disk }) (some ≡ false)) is in
+      record { redoes = cycled_redoes held.kept at ask First made now; is_made = now }
 
   -- a trial
-  pub cycle_tried : (held : Held) (journal : JournalTold D) (at : ℕ) (ask : CycleAsk) (made : Rewound) (report : Report) → IsCycled held.kept at ask (HoldsHeld (told journal.disk) held) made → report ≡ made.report
+  pub cycle_tried : (held : Held) (journal : JournalTold D) (at : ℕ) (ask : CycleAsk) (made : Rewound) (report : Report) → IsCycled held.kept at ask (ToldOr (HoldsHeld (told journal.disk) held) (cycle_reads held.kept at ask)) made → report ≡ made.report
       → Tries held.kept at ask (HoldsTexts told (lasting held journal)) report
   cycle_tried held journal at ask made report is report_is =
-      let redone = cycled_redoes held.kept at ask (HoldsHeld (told journal.disk) held) made is in
-      (redone.0, redone.1, λ h. report_is ∙ (redone.2 (holds_held held journal h)).report)
+      let some = cycle_reads held.kept at ask in
+      let redone = cycled_redoes held.kept at ask (ToldOr (HoldsHeld (told journal.disk) held) some) made is in
+      (redone.0, redone.1, λ h. report_is ∙ (redone.2 (held_or told held journal (some ≡ false) h)).report)
 
   pub made_unread : (kept : Kept) (at : ℕ) (ask : CycleAsk) (was : Type 0) (made : Rewound) → IsCycled kept at ask was made → IsCycled kept at ask ⊥ made
   made_unread kept at ask was made is = cycled_weaker kept at ask was ⊥ made (λ never. absurd never) is

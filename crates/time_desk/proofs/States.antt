@@ -1,5 +1,5 @@
 -- What holds over all that a journal's records leave.
-use Rattle.std.proofs.Common.{◌≡◌, ◌≢◌, ℕ, ◌+◌, ◌<◌, true, false, refl, List, [], ◌∷◌, ◌++◌, length, Some, is_some, sym, ap, ◌∙◌, subst, arith}
+use Rattle.std.proofs.Common.{◌≡◌, ◌≢◌, ℕ, ◌+◌, ◌<◌, Bool, true, false, refl, List, [], ◌∷◌, ◌++◌, length, Some, is_some, sym, ap, ◌∙◌, subst, arith}
 use Rattle.std.specs.Prelude.{IfOk, IsTrue, OnErr, Result, Ok, Err}
 use Rattle.std.specs.List.{AllByRecursion, list_any}
 use Rattle.undo_base.specs.declared.keys.User.{User}
@@ -30,6 +30,7 @@ use Rattle.cycle_rules.specs.Withdrawals.{after_withdrawal, withdraw_due}
 use Rattle.mail_cycle.specs.Permanence.{UidsLast, UidsStay}
 use Rattle.store_kept.specs.Texts.{all_bodies, has_text_kept, has_text_with}
 use Rattle.time_desk.specs.Cycling.{Cycles, DoesBy}
+use Rattle.time_desk.specs.Replaying.{cycle_reads, withdrawal_reads}
 use Rattle.time_desk.specs.Withdrawing.{Withdraws}
 use Rattle.desk_journal.specs.Lasting.{Lasting}
 use Rattle.desk_journal.specs.Sealing.{Seals}
@@ -141,12 +142,12 @@ abbrev pub LetsTextsStay : Type 0
 LetsTextsStay = (old new : Kept) (more : List JournalRecord) → IsSound old → after_records old more ≡ Some new → list_any is_withdrawal more ≡ false → UidsStay old new
 
 -- what holds of what is kept over a call that sealed the record of a request that was due, or nothing
-done_by : {D : Type 0} (told : D → DiskTold) (P : Kept → Type 0) (what : JournalRecord) (after : Cycled → Kept) (old new : Lasting D) (report : Report) (due : Due) → P old.kept → (Seals told (what ∷ []) [] old new → P new.kept)
-    → DoesBy told what after old new report due → P new.kept
-done_by told P what after old new report (Repeats earlier) none one done = subst (λ (l : Lasting _). P l.kept) (sym done.1) none
-done_by told P what after old new report NoPoint none one done = absurd done
-done_by told P what after old new report NoNumbers none one done = absurd done
-done_by told P what after old new report (Rewinds due) none one done = one done.2
+done_by : {D : Type 0} (told : D → DiskTold) (P : Kept → Type 0) (what : JournalRecord) (some : Bool) (after : Cycled → Kept) (old new : Lasting D) (report : Report) (due : Due) → P old.kept → (Seals told (what ∷ []) [] old new → P new.kept)
+    → DoesBy told what some after old new report due → P new.kept
+done_by told P what some after old new report (Repeats earlier) none one done = subst (λ (l : Lasting _). P l.kept) (sym done.1) none
+done_by told P what some after old new report NoPoint none one done = absurd done
+done_by told P what some after old new report NoNumbers none one done = absurd done
+done_by told P what some after old new report (Rewinds due) none one done = one done.2
 
 module _ (lasts : LetsUidsLast) where
   one_lasts : {D : Type 0} (told : D → DiskTold) (what : JournalRecord) (old new : Lasting D) → HoldsTexts told old → IsSound old.kept → Seals told (what ∷ []) [] old new → UidsLast old.kept new.kept
@@ -157,7 +158,7 @@ module _ (lasts : LetsUidsLast) where
       → IfOk result (λ report. Withdraws told at key of old new report) → OnErr result (new.kept ≡ old.kept) → UidsLast old.kept new.kept
   lasts_withdrawn told at key of (Ok report) old new holds sound done same =
       let what = Withdraw old.kept.next at key of in
-      done_by told (UidsLast old.kept) what (after_withdrawal old.kept key) old new report (withdraw_due old.kept at key of) (lasts_kept old.kept old.kept refl) (one_lasts told what old new holds sound) done
+      done_by told (UidsLast old.kept) what (withdrawal_reads old.kept of) (after_withdrawal old.kept key) old new report (withdraw_due old.kept at key of) (lasts_kept old.kept old.kept refl) (one_lasts told what old new holds sound) done
   lasts_withdrawn told at key of (Err e) old new holds sound done same = lasts_kept old.kept new.kept same
 
 -- over a cycle, and no text comes back
@@ -165,6 +166,6 @@ pub stays_rewound : LetsTextsStay → {D E : Type 0} (told : D → DiskTold) (at
     → IfOk result (λ report. Cycles told at ask old new report) → OnErr result (new.kept ≡ old.kept) → UidsStay old.kept new.kept
 stays_rewound stays told at ask (Ok report) old new holds sound done same =
     let what = Cycle old.kept.next at ask in
-    done_by told (UidsStay old.kept) what (after_cycle old.kept ask) old new report (cycle_due old.kept at ask) (stay_kept old.kept old.kept refl)
+    done_by told (UidsStay old.kept) what (cycle_reads old.kept at ask) (after_cycle old.kept ask) old new report (cycle_due old.kept at ask) (stay_kept old.kept old.kept refl)
     (λ seals. stays old.kept new.kept (what ∷ []) sound (seals.kept (inl holds)) refl) done
 stays_rewound stays told at ask (Err e) old new holds sound done same = stay_kept old.kept new.kept same

@@ -1,6 +1,7 @@
 -- What becomes of a withdrawal, from what it leaves in memory and what became of sealing it.
 use Rattle.std.proofs.Common.{◌≡◌, ◌∙◌, ◌+◌, ◌-◌, ◌≤◌, ◌==◌, ◌&&◌, ℕ, Bool, true, false, cond, arith, ap, sym, subst, refl, List, [], ◌∷◌, ◌++◌, drop, length, map, take, Option, Some, None, Result, Ok, Err, inl, inr, ⊎_elim}
-use Rattle.std.specs.Prelude.{IfErr, OnOk, IsSome, IsTrue, if◌then◌else◌, is_none, option_and_then}
+use Rattle.std.specs.Prelude.{IfErr, IsErrOf, OnOk, IsSome, IsTrue, if◌then◌else◌, is_none, option_and_then}
+use Rattle.std.specs.Option.{option_map_or}
 use Rattle.std.proofs.lemmas.Bool.{eq-eqb}
 use Rattle.std.proofs.lemmas.Bool.Decides.{nat_tests}
 use Rattle.std.proofs.lemmas.List.{length-append, length-drop, length-map, length-take-le}
@@ -61,7 +62,9 @@ use Rattle.time_desk.proofs.Bounding.{made_length}
 use Rattle.time_desk.proofs.Marking.{withdrawn_marks}
 use Rattle.time_desk.proofs.Repaired.{nothing_sealed, record_sealed, record_unsealed}
 use Rattle.time_desk.proofs.Restored.{withdrawal_lies, withdrawal_noted}
-use Rattle.time_desk.proofs.Rewinding.{after_withdrawal_is, holds_held, made_weaker}
+use Rattle.time_desk.specs.Replaying.{ToldOr, repair_reads, withdrawal_reads}
+use Rattle.time_desk.proofs.Delivering.{held_or}
+use Rattle.time_desk.proofs.Rewinding.{after_withdrawal_is, made_weaker}
 use Rattle.time_desk.proofs.Standings.{if_err}
 use Rattle.time_desk.proofs.Undone.{undone_is}
 
@@ -145,6 +148,10 @@ withdrawal_most kept at last =
 pub withdrawal_due : (kept : Kept) (at of : ℕ) (last : UndoneBehind) → undone_of kept of ≡ Some last → leaves_numbers_for kept 0 ≡ true → withdraw_due_anew kept at of ≡ Rewinds (withdrawn_at kept at last)
 withdrawal_due kept at of last is left = ap (withdraw_due_at kept at) is ∙ ap (λ (b : Bool). cond b (Rewinds (withdrawn_at kept at last)) NoNumbers) left
 
+-- what is to be read for it
+reads_last : (kept : Kept) (of : ℕ) (last : UndoneBehind) → undone_of kept of ≡ Some last → withdrawal_reads kept of ≡ repair_reads kept (unedit_of kept last)
+reads_last kept of last is = ap (λ (o : Option UndoneBehind). option_map_or (λ (u : UndoneBehind). repair_reads kept (unedit_of kept u)) o false) is
+
 one_last : (a b : UndoneBehind) → Some a ≡ Some b → a ≡ b
 one_last a b e = cc
 
@@ -161,11 +168,13 @@ module _ {D : Type 0} (told : D → DiskTold) (held : Held) (at of : ℕ) (last 
         last = last;
         is_last = is_last;
         due = withdrawal_due held.kept at of last is_last left;
-        is_made = subst (λ (u : Task). IsMade held.kept u.at u.repair (HoldsHeld (told old.disk) held) made) is done.made;
+        is_made = subst (λ (some : Bool). IsMade held.kept at (unedit_of held.kept last) (ToldOr (HoldsHeld (told old.disk) held) some) made) (sym (reads_last held.kept of last is_last))
+            (subst (λ (u : Task). IsMade held.kept u.at u.repair (ToldOr (HoldsHeld (told old.disk) held) (repair_reads held.kept u.repair)) made) is done.made);
       };
       fit = done.fit;
       refused = tt;
       cause = done.cause;
+      due = λ failed. absurd (cc failed);
     };
     untouched = tt;
     few = λ other other_is h.
@@ -194,7 +203,13 @@ module _ {D : Type 0} (told : D → DiskTold) (held : Held) (at of : ℕ) (last 
   pub withdrawal_failed : (t : Task) (old new : PastTold D) (same : Type 0) (before after : ℕ) → HasUndone held.kept → t ≡ withdrawal_task (unmarked held.kept) at last → Reworks told held t old new before after (Err bodies_faults.Failed)
       → WithdrawsInSteps told held at of old.disk new.disk same before after (Err refusals.Disk)
   withdrawal_failed t old new same before after comes is done = record {
-    alone = record { withdrawn = tt; fit = tt; refused = rewinds_due; cause = done.cause };
+    alone = record {
+      withdrawn = tt;
+      fit = tt;
+      refused = rewinds_due;
+      cause = done.cause;
+      due = λ failed. reads_last held.kept of last is_last ∙ subst (λ (u : Task). repair_reads held.kept u.repair ≡ true) is (done.due refl);
+    };
     untouched = λ undue. absurd (undue rewinds_due);
     few = λ other other_is h. tt;
     most = most_failed t old new before after bodies_faults.Failed is done;
@@ -205,7 +220,7 @@ module _ {D : Type 0} (told : D → DiskTold) (held : Held) (at of : ℕ) (last 
   pub withdrawal_wanting : (t : Task) (old new : PastTold D) (same : Type 0) (before after : ℕ) → HasUndone held.kept → t ≡ withdrawal_task (unmarked held.kept) at last → Reworks told held t old new before after (Err bodies_faults.NoMemory)
       → WithdrawsInSteps told held at of old.disk new.disk same before after (Err refusals.NoMemory)
   withdrawal_wanting t old new same before after comes is done = record {
-    alone = record { withdrawn = tt; fit = tt; refused = rewinds_due; cause = done.cause };
+    alone = record { withdrawn = tt; fit = tt; refused = rewinds_due; cause = done.cause; due = λ failed. absurd (cc failed) };
     untouched = λ undue. absurd (undue rewinds_due);
     few = λ other other_is h. tt;
     most = most_failed t old new before after bodies_faults.NoMemory is done;
@@ -219,7 +234,7 @@ module _ {D : Type 0} (told : D → DiskTold) (held : Held) (at of : ℕ) where
   -- the cycle is not the last
   pub withdrawal_unknown : (disk : D) (same : Type 0) (steps : ℕ) → undone_of held.kept of ≡ None → same → WithdrawsInSteps told held at of disk disk same steps steps (Err (refusals.Point of))
   withdrawal_unknown disk same steps none untouched = record {
-    alone = record { withdrawn = tt; fit = tt; refused = (ap (withdraw_due_at held.kept at) none, refl); cause = refl };
+    alone = record { withdrawn = tt; fit = tt; refused = (ap (withdraw_due_at held.kept at) none, refl); cause = refl; due = λ failed. absurd (cc failed) };
     untouched = λ undue. untouched;
     few = λ other other_is h. tt;
     most = λ other other_is h. omega arith;
@@ -232,7 +247,7 @@ module _ {D : Type 0} (told : D → DiskTold) (held : Held) (at of : ℕ) where
       → IsRefusalBy (unmarked held.kept) last.cycle (withdraw_due_at (unmarked held.kept) at (Some last)) refused → (refused ≡ refusals.Disk → ⊥) → same
       → WithdrawsInSteps told held at of disk disk same steps steps (Err refused)
   withdrawal_undue last disk same steps refused is_last refusal unread untouched = record {
-    alone = record { withdrawn = tt; fit = tt; refused = subst (λ (d : Due). IsRefusalBy held.kept of d refused) (sym (ap (withdraw_due_at held.kept at) is_last)) (of_number refused refusal); cause = none_read refused unread };
+    alone = record { withdrawn = tt; fit = tt; refused = subst (λ (d : Due). IsRefusalBy held.kept of d refused) (sym (ap (withdraw_due_at held.kept at) is_last)) (of_number refused refusal); cause = none_read refused unread; due = λ failed. absurd (unread (one_why refused refusals.Disk failed)) };
     untouched = λ undue. untouched;
     few = λ other other_is h. tt;
     most = λ other other_is h. omega arith;
@@ -245,6 +260,9 @@ module _ {D : Type 0} (told : D → DiskTold) (held : Held) (at of : ℕ) where
       of_number (refusals.Numbers next) is = is
       of_number refusals.Disk is = is
       of_number refusals.NoMemory is = is
+
+      one_why : (a b : CycleRefused) → ◌≡◌ {A = Result Rewound CycleRefused} (Err a) (Err b) → a ≡ b
+      one_why a b e = cc
 
       none_read : (r : CycleRefused) → (r ≡ refusals.Disk → ⊥) → RedoesCause {T = Rewound} (told disk) (told disk) (Err r)
       none_read (refusals.Point given) never = refl
@@ -273,6 +291,10 @@ withdrawal_can told held gate at last t is goes tells = subst (CanRework told he
 -- where the same is known of more
 pub withdrawn_weaker : (kept : Kept) (at of : ℕ) (told more : Type 0) (made : Rewound) → (more → told) → IsWithdrawn kept at of told made → IsWithdrawn kept at of more made
 withdrawn_weaker kept at of told more made so is = record { last = is.last; is_last = is.is_last; due = is.due; is_made = made_weaker kept at (unedit_of kept is.last) told more made so is.is_made }
+
+-- as it is where the disk holds the texts
+pub held_withdrawn : (kept : Kept) (at of : ℕ) (told : Type 0) (made : Rewound) → IsWithdrawn kept at of (ToldOr told (withdrawal_reads kept of)) made → IsWithdrawn kept at of told made
+held_withdrawn kept at of told made is = withdrawn_weaker kept at of (ToldOr told (withdrawal_reads kept of)) told made (λ h. inl h) is
 
 -- ---- what is due
 
@@ -308,7 +330,7 @@ withdrawal_follows kept number at key of spelled next new =
 module _ {D : Type 0} (told : D → DiskTold) where
   -- a report of before
   pub withdrawn_again : (at : ℕ) (key : List ℕ) (of : ℕ) (old : Lasting D) (report : Report) → report_of old.kept.reports key ≡ Some report → Withdraws told at key of old old report
-  withdrawn_again at key of old report had = subst (DoesBy told (Withdraw old.kept.next at key of) (after_withdrawal old.kept key) old old report) (sym (withdraw_again old.kept at key of report had)) (refl, refl)
+  withdrawn_again at key of old report had = subst (DoesBy told (Withdraw old.kept.next at key of) (withdrawal_reads old.kept of) (after_withdrawal old.kept key) old old report) (sym (withdraw_again old.kept at key of report had)) (refl, refl)
 
   -- no memory for the copy of a report of before
   pub out_of_memory_again : (at : ℕ) (key : List ℕ) (of : ℕ) (old : Lasting D) → IsSome (report_of old.kept.reports key) → WithdrawsNone told at key of old old faults.NoMemory
@@ -320,11 +342,11 @@ module _ {D : Type 0} (told : D → DiskTold) where
 
   -- a withdrawal that was sealed and put in place
   pub withdrawn : (at : ℕ) (key : List ℕ) (of : ℕ) (first new : Lasting D) (made : Rewound) (report : Report)
-      → report_of first.kept.reports key ≡ None → IsWithdrawn first.kept at of (HoldsTexts told first) made → first.closed ≡ false → report ≡ made.report
+      → report_of first.kept.reports key ≡ None → IsWithdrawn first.kept at of (ToldOr (HoldsTexts told first) (withdrawal_reads first.kept of)) made → first.closed ≡ false → report ≡ made.report
       → new.kept ≡ after_rewound first.kept key false made → Seals told (Withdraw first.kept.next at key of ∷ []) [] first new → Withdraws told at key of first new report
   withdrawn at key of first new made report anew is open_ report_is kept_is seals =
-      let leaves = made_whole first.kept at (unedit_of first.kept is.last) (HoldsTexts told first) made is.is_made in
-      subst (DoesBy told (Withdraw first.kept.next at key of) (after_withdrawal first.kept key) first new report) (sym (withdraw_new first.kept at key of anew ∙ is.due)) (
+      let leaves = made_whole first.kept at (unedit_of first.kept is.last) (ToldOr (HoldsTexts told first) (withdrawal_reads first.kept of)) made is.is_made in
+      subst (DoesBy told (Withdraw first.kept.next at key of) (withdrawal_reads first.kept of) (after_withdrawal first.kept key) first new report) (sym (withdraw_new first.kept at key of anew ∙ is.due)) (
         open_,
         λ holds. (report_is ∙ (leaves holds).report, kept_is ∙ sym (after_withdrawal_is first.kept key (withdrawn_at first.kept at is.last) made (leaves holds))),
         seals,
@@ -348,16 +370,17 @@ module _ {D : Type 0} (told : D → DiskTold) where
   -- none in memory
   pub refused : (at : ℕ) (key : List ℕ) (of : ℕ) (old new : Lasting D) (why : CycleRefused) (out : WithdrawFault) → IsStill told old new → SealsNothing told old new
       → ((IsRewinds (withdraw_due_anew old.kept at of) → ⊥) → new ≡ old) → report_of old.kept.reports key ≡ None → old.closed ≡ false
-      → IsRefusalBy old.kept of (withdraw_due_anew old.kept at of) why → RedoesCause {T = Rewound} (told old.disk) (told new.disk) (Err why) → IsRetold why out → WithdrawsNone told at key of old new out
-  refused at key of old new (refusals.Point given) out still nothing untouched anew open_ refusal cause is =
+      → IsRefusalBy old.kept of (withdraw_due_anew old.kept at of) why → RedoesCause {T = Rewound} (told old.disk) (told new.disk) (Err why)
+      → (IsErrOf {T = Rewound} (Err why) refusals.Disk → withdrawal_reads old.kept of ≡ true) → IsRetold why out → WithdrawsNone told at key of old new out
+  refused at key of old new (refusals.Point given) out still nothing untouched anew open_ refusal cause due is =
       subst (WithdrawsNone told at key of old new) (sym is)
       (open_, withdraw_new old.kept at key of anew ∙ refusal.0, refusal.1, untouched (λ due. subst IsRewinds refusal.0 due))
-  refused at key of old new (refusals.Numbers next) out still nothing untouched anew open_ refusal cause is =
+  refused at key of old new (refusals.Numbers next) out still nothing untouched anew open_ refusal cause due is =
       subst (WithdrawsNone told at key of old new) (sym is)
       (open_, withdraw_new old.kept at key of anew ∙ refusal.0, refusal.1, untouched (λ due. subst IsRewinds refusal.0 due))
-  refused at key of old new refusals.Disk out still nothing untouched anew open_ refusal cause is =
-      subst (WithdrawsNone told at key of old new) (sym is) (open_, inr (subst IsRewinds (sym (withdraw_new old.kept at key of anew)) refusal, still, cause))
-  refused at key of old new refusals.NoMemory out still nothing untouched anew open_ refusal cause is =
+  refused at key of old new refusals.Disk out still nothing untouched anew open_ refusal cause due is =
+      subst (WithdrawsNone told at key of old new) (sym is) (open_, inr (subst IsRewinds (sym (withdraw_new old.kept at key of anew)) refusal, due refl, still, cause))
+  refused at key of old new refusals.NoMemory out still nothing untouched anew open_ refusal cause due is =
       subst (WithdrawsNone told at key of old new) (sym is) (subst (RunsOutOfMemoryBy told old new) (sym (withdraw_new old.kept at key of anew)) (by_due (withdraw_due_anew old.kept at of) refusal))
     where
       by_due : (due : Due) → IsRewinds due → RunsOutOfMemoryBy told old new due
@@ -373,7 +396,10 @@ module _ {D : Type 0} (told : D → DiskTold) (disk : D) (before after : Held) (
   abbrev First : Lasting D
   First = lasting before (record old { disk = disk })
 
-  module _ (is : IsWithdrawn before.kept at of (HoldsTexts told First) made) (anew : report_of before.kept.reports key ≡ None) (bytes_are : bytes ≡ record_bytes (Withdraw before.kept.next at key of))
+  abbrev Told : Type 0
+  Told = ToldOr (HoldsTexts told First) (withdrawal_reads before.kept of)
+
+  module _ (is : IsWithdrawn before.kept at of Told made) (anew : report_of before.kept.reports key ≡ None) (bytes_are : bytes ≡ record_bytes (Withdraw before.kept.next at key of))
       (spelled : is_spelled (Withdraw before.kept.next at key of) ≡ true) where
     due_record : IsRecordTo (Withdraw before.kept.next at key of) bytes before.kept (after_withdrawal before.kept key (withdrawn_at before.kept at is.last))
     due_record = record {
@@ -393,15 +419,15 @@ module _ {D : Type 0} (told : D → DiskTold) (disk : D) (before after : Held) (
       where
         left_is : HoldsTexts told First → after_withdrawal before.kept key (withdrawn_at before.kept at is.last) ≡ after.kept
         left_is holds =
-            after_withdrawal_is before.kept key (withdrawn_at before.kept at is.last) made (made_whole before.kept at (unedit_of before.kept is.last) (HoldsTexts told First) made is.is_made holds) ∙ sym kept_is
+            after_withdrawal_is before.kept key (withdrawn_at before.kept at is.last) made (made_whole before.kept at (unedit_of before.kept is.last) Told made is.is_made (inl holds)) ∙ sym kept_is
 
         marked : HoldsTexts told First → (payloads : List (List ℕ)) → LiesAt payloads old.gate (length bytes) bytes → IsRun before.kept → MarksLie payloads before.kept before.marks → MarksLie payloads after.kept after.marks
         marked holds payloads at_place runs all = subst (MarksLie payloads after.kept) (sym marks_are)
-            (withdrawn_marks payloads before.kept after.kept at is.last (HoldsTexts told First) made before.marks holds is.is_made (ap (λ (k : Kept). k.base) kept_is) (ap (λ (k : Kept). k.timeline) kept_is) all)
+            (withdrawn_marks payloads before.kept after.kept at is.last Told made before.marks (inl holds) is.is_made (ap (λ (k : Kept). k.base) kept_is) (ap (λ (k : Kept). k.timeline) kept_is) all)
 
         lies : HoldsTexts told First → (payloads : List (List ℕ)) → LiesAt payloads old.gate (length bytes) bytes → TextsStored payloads before.notes before.kept → TextsStored payloads after.notes after.kept
         lies holds payloads at_place all =
-            withdrawal_lies before after at is.last (undone_is before.kept of is.last is.is_last) (HoldsTexts told First) made is.is_made fit.timeline.apart (sound holds.texts.runs).base notes.0 notes.3 key kept_is payloads holds all
+            withdrawal_lies before after at is.last (undone_is before.kept of is.last is.is_last) Told made is.is_made fit.timeline.apart (sound holds.texts.runs).base notes.0 notes.3 key kept_is payloads (inl holds) all
 
     -- it was not
     pub withdrawal_unsealed : {X : Type 0} (fault : SealFault) (out : WithdrawFault) → SealsBytes {X = X} told bytes old new (Err fault) → (told old.disk).failed_reads ≡ (told disk).failed_reads → after.kept ≡ before.kept → after.notes ≡ before.notes → after.marks ≡ before.marks
@@ -412,7 +438,7 @@ module _ {D : Type 0} (told : D → DiskTold) (disk : D) (before after : Held) (
         (sealed.reads ∙ well)
 
   -- there was no memory for what is to be put in place
-  pub withdrawal_out_of_memory : IsWithdrawn before.kept at of (HoldsTexts told First) made → report_of before.kept.reports key ≡ None → ((d : D) → (told d).honest → IsHonest (told d)) → (told old.disk).failed_reads ≡ (told disk).failed_reads
+  pub withdrawal_out_of_memory : IsWithdrawn before.kept at of Told made → report_of before.kept.reports key ≡ None → ((d : D) → (told d).honest → IsHonest (told d)) → (told old.disk).failed_reads ≡ (told disk).failed_reads
       → after.kept ≡ before.kept → after.notes ≡ before.notes → after.marks ≡ before.marks → WithdrawsNone told at key of First (lasting after old) faults.NoMemory
   withdrawal_out_of_memory is anew truth well kept notes marks =
       out_of_memory told at key of First (lasting after old) (withdrawn_at before.kept at is.last) anew is.due open_
@@ -462,6 +488,8 @@ module _ {D : Type 0} (told : D → DiskTold) where
   fed_later old mid new (Err fault) reads finds_memory = tt
 
   -- what was in memory is what was made from a first desk on
-  pub withdrawn_as : (held : Held) (old new : JournalTold D) (at of : ℕ) (made : Rewound) → IsWithdrawn held.kept at of (HoldsHeld (told old.disk) held) made
-      → IsWithdrawn held.kept at of (HoldsTexts told (lasting held (record new { disk = old.disk }))) made
-  withdrawn_as held old new at of made is = withdrawn_weaker held.kept at of (HoldsHeld (told old.disk) held) (HoldsTexts told (lasting held (record new { disk = old.disk }))) made (holds_held told held (record new { disk = old.disk })) is
+  pub withdrawn_as : (held : Held) (old new : JournalTold D) (at of : ℕ) (made : Rewound) → IsWithdrawn held.kept at of (ToldOr (HoldsHeld (told old.disk) held) (withdrawal_reads held.kept of)) made
+      → IsWithdrawn held.kept at of (ToldOr (HoldsTexts told (lasting held (record new { disk = old.disk }))) (withdrawal_reads held.kept of)) made
+  withdrawn_as held old new at of made is =
+      let some = withdrawal_reads held.kept of in
+      withdrawn_weaker held.kept at of (ToldOr (HoldsHeld (told old.disk) held) some) (ToldOr (HoldsTexts told (lasting held (record new { disk = old.disk }))) some) made (held_or told held (record new { disk = old.disk }) (some ≡ false)) is

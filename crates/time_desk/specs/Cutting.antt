@@ -1,5 +1,5 @@
 -- What a cut at a point is made of.
-use Rattle.std.specs.Prelude.{◌≡◌, ℕ, List, [], ◌∷◌, map, Some, None, IsSome}
+use Rattle.std.specs.Prelude.{◌≡◌, ℕ, List, [], ◌∷◌, map, Some, None, IsSome, IsTrue}
 use Rattle.std.specs.BTreeSet.{insert_key}
 use Rattle.std.specs.Ordering.{nat_cmp, ordering_then}
 use Rattle.std.specs.declared.cmp.Ordering.{Ordering}
@@ -17,6 +17,7 @@ use Rattle.repair_desk.specs.Repairs.{position}
 use Rattle.cycle_rules.specs.Cutting.{cut, texts_by}
 use Rattle.mail_desk.specs.Counting.{bare_item}
 use Rattle.base_cut.specs.declared.parts.CutParts.{CutParts}
+use Rattle.time_desk.specs.Replaying.{cut_reads}
 use Rattle.time_desk.specs.declared.fault.CycleFault.{CycleFault}
 use Rattle.time_desk.specs.declared.fault.CycleFault.TheVariants.{Point, Numbers, Disk, NoMemory, Closed}
 
@@ -38,12 +39,12 @@ pub record AreParts (kept : Kept) (parts : CutParts) : Type 0 where
 abbrev pub Cuts : Kept → ℕ → Type 0 → CutParts → Type 0
 Cuts kept point told parts = (place : ℕ) × (position kept.timeline point ≡ Some place) × (told → AreParts (cut kept place) parts)
 
--- why there are no parts: the timeline does not have the point, exactly where it says so; where it has it a read failed, exactly where it
--- says so, and want of memory is free
+-- Why there are no parts: the timeline does not have the point, exactly where it says so. Where it has it a read failed, exactly where it
+-- says so, if something is to be read; and want of memory is free.
 abbrev pub CutsNone : Kept → ℕ → DiskTold → DiskTold → CycleFault → Type 0
 CutsNone kept point old new (Point given) = (position kept.timeline point ≡ None) × (given ≡ point) × (new.failed_reads ≡ old.failed_reads)
 CutsNone kept point old new (Numbers next) = ⊥
-CutsNone kept point old new Disk = IsSome (position kept.timeline point) × ReadFailed old new
+CutsNone kept point old new Disk = IsTrue (cut_reads kept point) × ReadFailed old new
 CutsNone kept point old new NoMemory = IsSome (position kept.timeline point) × (new.failed_reads ≡ old.failed_reads)
 CutsNone kept point old new Closed = ⊥
 

@@ -1,7 +1,8 @@
 -- What becomes of a request for a cycle.
-use Rattle.std.specs.Prelude.{◌≡◌, ◌⊎◌, ◌≤◌, ◌+◌, ◌-◌, ℕ, Bool, true, false, [], ◌∷◌, List, length, None, Some, Result, Ok, Err, IfErr, IfOk, OnErr, OnOk, IsTrue}
+use Rattle.std.specs.Prelude.{◌≡◌, ◌⊎◌, ◌≤◌, ◌+◌, ◌-◌, ℕ, Bool, true, false, [], ◌∷◌, List, length, None, Some, Result, Ok, Err, IfErr, IfOk, IsErrOf, OnErr, OnOk, IsTrue}
 use Rattle.undo_outside.specs.Disk.{DiskTold, ReadFailed, WriteOutOfMemory}
 use Rattle.verb_core.specs.declared.bodies.BodiesFault.{BodiesFault}
+use Rattle.verb_core.specs.declared.bodies.BodiesFault.TheVariants.{Failed}
 use Rattle.verb_core.specs.declared.mailbox.Body.{Body}
 use Rattle.verb_bytes.specs.declared.journal.CycleAsk.{CycleAsk}
 use Rattle.verb_bytes.specs.declared.journal.JournalRecord.{JournalRecord}
@@ -35,6 +36,7 @@ use Rattle.seal_log.specs.declared.fault.SealFault.TheVariants as log_faults
 use Rattle.time_desk.specs.declared.fault.CycleFault.{CycleFault}
 use Rattle.time_desk.specs.declared.fault.CycleFault.TheVariants.{Point, Numbers, Disk, NoMemory, Closed}
 use Rattle.time_desk.specs.Planning.{BodiesCause}
+use Rattle.time_desk.specs.Replaying.{ToldOr, cycle_reads, repair_reads}
 use Rattle.time_desk.specs.Serving.{unmarked}
 use Rattle.desk_journal.specs.Lasting.{Lasting, PastTold}
 use Rattle.desk_journal.specs.Reading.{IsStill, ReadsWell}
@@ -93,12 +95,13 @@ pub record CanRework {D : Type 0} (told : D → DiskTold) (held : Held) (gate : 
   pub tells : (disk : D) → TellsAll (told_first told (record { disk = disk; end = gate }) held held.kept.next t.texts) t.repair.items
 
 -- What comes of it: what is left in memory is made of the items as they were read, and can be put in place. Or a read failed exactly
--- where that is why there is none. The disk was read alone, and steps were counted from the newest snapshot on, also where there is
--- none: no item was performed twice.
+-- where that is why there is none, and something was to be read. The disk was read alone, and steps were counted from the newest
+-- snapshot on, also where there is none: no item was performed twice.
 pub record Reworks {D : Type 0} (told : D → DiskTold) (held : Held) (t : Task) (old new : PastTold D) (before after : ℕ) (result : Result Rewound BodiesFault) : Type 0 where
-  pub made : IfOk result (IsMade held.kept t.at t.repair (HoldsHeld (told old.disk) held))
+  pub made : IfOk result (IsMade held.kept t.at t.repair (ToldOr (HoldsHeld (told old.disk) held) (repair_reads held.kept t.repair)))
   pub fit : IfOk result (IsFit held.kept)
   pub cause : BodiesCause (told old.disk) (told new.disk) result
+  pub due : IsErrOf result Failed → IsTrue (repair_reads held.kept t.repair)
   pub still : IsPastRead told old new
   pub few : HoldsHeld (told old.disk) held → OnOk result (after ≤ before + most_reworked held.kept t.repair.acts (reworked held.kept t.at t.repair))
   pub most : HoldsHeld (told old.disk) held → OnErr result (after ≤ before + most_begun held.kept t.repair.acts (reworked held.kept t.at t.repair))
@@ -114,7 +117,8 @@ pub record IsCycled (kept : Kept) (at : ℕ) (ask : CycleAsk) (honest : Type 0) 
   pub due : due_anew kept at ask ≡ Rewinds (cycled_at kept at ask place)
   pub is_made : IsMade kept at (repair_of kept at ask place) honest made
 
--- a cycle is due under a new key; and where the texts are told as they were stored, what is left in memory is what it leaves
+-- a cycle is due under a new key; and where the texts are told as they were stored, or none is to be read, what is left in memory is
+-- what it leaves
 abbrev pub Redoes : Kept → ℕ → CycleAsk → Type 0 → Rewound → Type 0
 Redoes kept at ask told made = (due : Cycled) × (due_anew kept at ask ≡ Rewinds due) × (told → Leaves kept due made)
 
@@ -128,11 +132,12 @@ RedoesCause old new (Err refusals.NoMemory) = new.failed_reads ≡ old.failed_re
 
 -- What comes of a request for a cycle in memory, with nothing counted: the cycle that is due, or why there is none.
 pub record RedoesAlone {D : Type 0} (told : D → DiskTold) (held : Held) (at : ℕ) (ask : CycleAsk) (old new : D) (result : Result Rewound CycleRefused) : Type 0 where
-  pub cycled : IfOk result (IsCycled held.kept at ask (HoldsHeld (told old) held))
+  pub cycled : IfOk result (IsCycled held.kept at ask (ToldOr (HoldsHeld (told old) held) (cycle_reads held.kept at ask)))
   pub fit : IfOk result (IsFit held.kept)
   pub undone : IfOk result (CanBeUndone held.kept true)
   pub refused : IfErr result (IsRefusalOf held.kept ask (due_anew held.kept at ask))
   pub cause : RedoesCause (told old) (told new) result
+  pub due : IsErrOf result refusals.Disk → IsTrue (cycle_reads held.kept at ask)
 
 -- how many items a cycle performs at most
 abbrev pub most_performed : Kept → CycleAsk → Cycled → ℕ
@@ -172,38 +177,39 @@ IsCycleOutcomeOf log_faults.Closed fault = ⊥
 
 -- ---- a trial
 
--- a cycle is due under a new key; and where the texts are told as they were stored, the report is that of it
+-- a cycle is due under a new key; and where the texts are told as they were stored, or none is to be read, the report is that of it
 abbrev pub Tries : Kept → ℕ → CycleAsk → Type 0 → Report → Type 0
-Tries kept at ask told report = (due : Cycled) × (due_anew kept at ask ≡ Rewinds due) × (told → report ≡ due.report)
+Tries kept at ask told report = (due : Cycled) × (due_anew kept at ask ≡ Rewinds due) × (ToldOr told (cycle_reads kept at ask) → report ≡ due.report)
 
 -- Why a trial has no report: the timeline does not have the point, or else too few numbers are left. Memory is wanted, and texts
--- are read, where a cycle is due alone. A read failed exactly where it says so.
+-- are read, where a cycle is due alone. A read failed exactly where it says so, if something is to be read.
 abbrev pub TriesNone : Kept → ℕ → CycleAsk → DiskTold → DiskTold → CycleFault → Type 0
 TriesNone kept at ask old new (Point given) = (due_anew kept at ask ≡ NoPoint) × (given ≡ ask.point) × (new.failed_reads ≡ old.failed_reads)
 TriesNone kept at ask old new (Numbers next) = (due_anew kept at ask ≡ NoNumbers) × (next ≡ kept.next) × (new.failed_reads ≡ old.failed_reads)
-TriesNone kept at ask old new Disk = IsRewinds (due_anew kept at ask) × ReadFailed old new
+TriesNone kept at ask old new Disk = IsRewinds (due_anew kept at ask) × IsTrue (cycle_reads kept at ask) × ReadFailed old new
 TriesNone kept at ask old new NoMemory = IsRewinds (due_anew kept at ask) × (new.failed_reads ≡ old.failed_reads)
 TriesNone kept at ask old new Closed = ⊥
 
 -- ---- a cycle
 
 module _ {D : Type 0} (told : D → DiskTold) where
-  -- By what is due to a request that a record is of. A key that a cycle or a withdrawal had is answered with its report, and nothing
-  -- changes. Else the one record is sealed, and where the texts lie on the disk as they are noted, what is kept is what it leaves.
-  abbrev pub DoesBy : JournalRecord → (Cycled → Kept) → Lasting D → Lasting D → Report → Due → Type 0
-  DoesBy what after old new report (Repeats earlier) = (report ≡ earlier) × (new ≡ old)
-  DoesBy what after old new report NoPoint = ⊥
-  DoesBy what after old new report NoNumbers = ⊥
-  DoesBy what after old new report (Rewinds due) =
-      (old.closed ≡ false) × (HoldsTexts told old → (report ≡ due.report) × (new.kept ≡ after due)) × Seals told (what ∷ []) [] old new
+  -- By what is due to a request that a record is of, and whether something is to be read for it. A key that a cycle or a withdrawal
+  -- had is answered with its report, and nothing changes. Else the one record is sealed. Where the texts lie on the disk as they are
+  -- noted, or none is to be read, what is kept is what it leaves.
+  abbrev pub DoesBy : JournalRecord → Bool → (Cycled → Kept) → Lasting D → Lasting D → Report → Due → Type 0
+  DoesBy what some after old new report (Repeats earlier) = (report ≡ earlier) × (new ≡ old)
+  DoesBy what some after old new report NoPoint = ⊥
+  DoesBy what some after old new report NoNumbers = ⊥
+  DoesBy what some after old new report (Rewinds due) =
+      (old.closed ≡ false) × (ToldOr (HoldsTexts told old) some → (report ≡ due.report) × (new.kept ≡ after due)) × Seals told (what ∷ []) [] old new
 
   abbrev pub CyclesBy : ℕ → CycleAsk → Lasting D → Lasting D → Report → Due → Type 0
-  CyclesBy at ask old new report due = DoesBy (Cycle old.kept.next at ask) (after_cycle old.kept ask) old new report due
+  CyclesBy at ask old new report due = DoesBy (Cycle old.kept.next at ask) (cycle_reads old.kept at ask) (after_cycle old.kept ask) old new report due
 
   -- what is left in memory was made of the items as they were read from a first desk on
   pub record CyclesAs (first : Lasting D) (at : ℕ) (ask : CycleAsk) (made : Rewound) : Type 0 where
-    pub redoes : Redoes first.kept at ask (HoldsTexts told first) made
-    pub is_made : IsCycled first.kept at ask (HoldsTexts told first) made
+    pub redoes : Redoes first.kept at ask (ToldOr (HoldsTexts told first) (cycle_reads first.kept at ask)) made
+    pub is_made : IsCycled first.kept at ask (ToldOr (HoldsTexts told first) (cycle_reads first.kept at ask)) made
 
   -- a request at a moment that is answered with a report
   abbrev pub Cycles : ℕ → CycleAsk → Lasting D → Lasting D → Report → Type 0
@@ -224,12 +230,12 @@ module _ {D : Type 0} (told : D → DiskTold) where
   abbrev pub FailsToCycle : ℕ → CycleAsk → Lasting D → Lasting D → Type 0
   FailsToCycle at ask old new = FailsToSeal (Cycle old.kept.next at ask) old new (cycle_due old.kept at ask)
 
-  -- one is due, and a read of a text failed: nothing was sealed, and nothing changed
-  abbrev pub FailsToReadFor : Lasting D → Lasting D → Due → Type 0
-  FailsToReadFor old new asked = IsRewinds asked × IsStill told old new × ReadFailed (told old.disk) (told new.disk)
+  -- one is due, something is to be read for it, and a read failed: nothing was sealed, and nothing changed
+  abbrev pub FailsToReadFor : Bool → Lasting D → Lasting D → Due → Type 0
+  FailsToReadFor some old new asked = IsRewinds asked × IsTrue some × IsStill told old new × ReadFailed (told old.disk) (told new.disk)
 
   abbrev pub FailsToRead : ℕ → CycleAsk → Lasting D → Lasting D → Type 0
-  FailsToRead at ask old new = FailsToReadFor old new (cycle_due old.kept at ask)
+  FailsToRead at ask old new = FailsToReadFor (cycle_reads old.kept at ask) old new (cycle_due old.kept at ask)
 
   -- Why a request has no report: the point or the numbers are missing, exactly where that is due. Or the record was not sealed,
   -- and the desk is closed, or a text was not read, and it stays open. Or no memory was found; or the desk was closed, and no

@@ -1,18 +1,26 @@
--- What a plan reads: a snapshot, where one is marked from which it can begin, and the texts of deliveries, and of no other item.
-use Rattle.std.proofs.Common.{◌≡◌, ◌⊎◌, ℕ, zero, suc, ◌<◌, ◌||◌, ◌&&◌, Bool, true, false, List, [], ◌∷◌, refl, sym, subst, ◌∙◌, arith}
+-- What is read where items are performed again: a snapshot, where one is marked from which to begin, and the texts of deliveries, and of no other item.
+use Rattle.std.proofs.Common.{◌≡◌, ◌⊎◌, ℕ, zero, suc, ◌<◌, ◌==◌, ◌||◌, ◌&&◌, not, Bool, true, false, List, [], ◌∷◌, length, take, refl, sym, subst, ◌∙◌, arith}
 use Rattle.std.specs.List.{list_any}
 use Rattle.std.specs.Option.{option_map_or}
 use Rattle.undo_outside.specs.Disk.{DiskTold, IsHonest}
 use Rattle.verb_core.specs.declared.item.Item.{Item}
 use Rattle.verb_core.specs.declared.mailbox.Body.{Body}
 use Rattle.verb_core.specs.Texts.{BodiesTold}
+use Rattle.verb_bytes.specs.declared.journal.CycleAsk.{CycleAsk}
+use Rattle.withdraw.specs.declared.undone.UndoneBehind.{UndoneBehind}
 use Rattle.stored_items.specs.Stored.{needs_text}
-use Rattle.store_kept.specs.Kept.{Kept, not_behind}
+use Rattle.store_kept.specs.Kept.{Kept, not_behind, undone_of}
 use Rattle.repair_desk.specs.Repairs.{position}
+use Rattle.cycle_rules.specs.Cycles.{repair_of}
+use Rattle.cycle_rules.specs.Repairing.{Repair}
+use Rattle.cycle_rules.specs.Withdrawals.{unedit_of}
 use Rattle.mail_desk.specs.Timeline.{item_of}
+use Rattle.desk_journal.specs.declared.read_texts.Reading.{Reading}
 use Rattle.desk_journal.specs.Going.{leads_on, leads_to_itself}
 use Rattle.desk_journal.specs.Telling.{HoldsHeld, LeadsOn, is_told, text_told}
+use Rattle.time_desk.specs.Unfiltered.{are_unfiltered}
 use Rattle.time_desk.specs.declared.deliveries.Deliveries.{Deliveries}
+use Rattle.time_desk.specs.declared.deliveries.DueDeliveries.{DueDeliveries}
 
 -- whether performing one of these items looks at its text: a delivery's filters do
 abbrev pub some_deliver : List Item → Bool
@@ -39,33 +47,86 @@ reads_behind kept place = some_marked kept place || some_deliver kept.timeline
 abbrev pub plan_reads : Kept → ℕ → Bool
 plan_reads kept point = option_map_or (reads_behind kept) (position kept.timeline point) false
 
--- ---- the deliveries in force, as they are read
+-- whether something is to be read for a repair: a snapshot at or before its place, or the text of one of its items
+abbrev pub repair_reads : Kept → Repair → Bool
+repair_reads kept repair = some_marked kept repair.place || some_deliver repair.items
+
+-- for a cycle: nothing, where the timeline does not have its point
+abbrev pub cycle_reads : Kept → ℕ → CycleAsk → Bool
+cycle_reads kept at ask = option_map_or (λ (place : ℕ). repair_reads kept (repair_of kept at ask place)) (position kept.timeline ask.point) false
+
+-- for a withdrawal: nothing, where its cycle is not the last of all
+abbrev pub withdrawal_reads : Kept → ℕ → Bool
+withdrawal_reads kept of = option_map_or (λ (last : UndoneBehind). repair_reads kept (unedit_of kept last)) (undone_of kept of) false
+
+-- for the store that the items through a place led to: where nothing is marked, no text unless a filter may look at one
+abbrev pub store_reads : Kept → ℕ → Bool
+store_reads kept place = some_marked kept place || (not (are_unfiltered kept.base (take place kept.timeline)) && some_deliver (take place kept.timeline))
+
+-- for a cut at a point: nothing at the last item, whose store is at hand
+abbrev pub cut_reads : Kept → ℕ → Bool
+cut_reads kept point = option_map_or (λ (place : ℕ). not (place == length kept.timeline) && store_reads kept place) (position kept.timeline point) false
+
+-- the texts are told as they were stored, or none is to be read
+abbrev pub ToldOr : Type 0 → Bool → Type 0
+ToldOr told some = told ⊎ (some ≡ false)
+
+-- ---- the deliveries among items, as they are read
 
 module _ {D : Type 0} (told : D → DiskTold) where
   -- What they tell of themselves: they hold no other body, and what is read is what was stored where the disk holds the texts, or where
   -- there is none to be read.
-  abbrev pub deliveries_told : Deliveries D → BodiesTold
-  deliveries_told d = record {
-    holds = λ body. is_told d.reading.desk.now d.reading.past.now.end d.reading.cycle d.reading.replaces.now body && is_delivered d.reading.desk.now.kept.timeline body;
-    texts = text_told d.reading.desk.now d.reading.cycle d.reading.replaces.now;
-    honest = HoldsHeld (told d.reading.past.now.disk) d.reading.desk.now ⊎ (some_deliver d.reading.desk.now.kept.timeline ≡ false);
-    faults = d.reading.failed;
+  abbrev pub delivered_told : Reading D → List Item → BodiesTold
+  delivered_told r items = record {
+    holds = λ body. is_told r.desk.now r.past.now.end r.cycle r.replaces.now body && is_delivered items body;
+    texts = text_told r.desk.now r.cycle r.replaces.now;
+    honest = ToldOr (HoldsHeld (told r.past.now.disk) r.desk.now) (some_deliver items);
+    faults = r.failed;
   }
 
   -- the disk was read, and all else is the same; a read fails only where there is a delivery
-  pub record DeliversOn (old new : Deliveries D) : Type 0 where
-    pub reading : LeadsOn told old.reading new.reading
-    pub due : old.reading.failed ≡ 0 → 0 < new.reading.failed → some_deliver old.reading.desk.now.kept.timeline ≡ true
+  pub record DeliversOn (old new : Reading D) (items items' : List Item) : Type 0 where
+    pub reading : LeadsOn told old new
+    pub same : items' ≡ items
+    pub due : old.failed ≡ 0 → 0 < new.failed → some_deliver items ≡ true
 
-  pub delivers_to_itself : ((disk : D) → (told disk).honest → IsHonest (told disk)) → (d : Deliveries D) → DeliversOn d d
-  delivers_to_itself truth d = record { reading = leads_to_itself told truth d.reading; due = λ none some. absurd (omega (arith, none, some)) }
+  delivers_to_itself : ((disk : D) → (told disk).honest → IsHonest (told disk)) → (r : Reading D) (items : List Item) → DeliversOn r r items items
+  delivers_to_itself truth r items = record { reading = leads_to_itself told truth r; same = refl; due = λ none some. absurd (omega (arith, none, some)) }
 
-  pub delivers_on : (old mid new : Deliveries D) → DeliversOn old mid → DeliversOn mid new → DeliversOn old new
-  delivers_on old mid new first second = record {
-    reading = leads_on told old.reading mid.reading new.reading first.reading second.reading;
-    due = λ none some. between mid.reading.failed refl none some;
+  delivers_on : (old mid new : Reading D) (items items' items'' : List Item) → DeliversOn old mid items items' → DeliversOn mid new items' items'' → DeliversOn old new items items''
+  delivers_on old mid new items items' items'' first second = record {
+    reading = leads_on told old mid new first.reading second.reading;
+    same = second.same ∙ first.same;
+    due = λ none some. between mid.failed refl none some;
   }
     where
-      between : (n : ℕ) → mid.reading.failed ≡ n → old.reading.failed ≡ 0 → 0 < new.reading.failed → some_deliver old.reading.desk.now.kept.timeline ≡ true
-      between zero is none some = subst (λ held. some_deliver held.kept.timeline ≡ true) first.reading.desk (second.due is some)
+      between : (n : ℕ) → mid.failed ≡ n → old.failed ≡ 0 → 0 < new.failed → some_deliver items ≡ true
+      between zero is none some = subst (λ (t : List Item). some_deliver t ≡ true) first.same (second.due is some)
       between (suc n) is none some = first.due none (omega (arith, is))
+
+  -- of items that are given
+  abbrev pub deliveries_told : Deliveries D → BodiesTold
+  deliveries_told d = delivered_told d.reading d.items.now
+
+  abbrev pub DeliveriesOn : Deliveries D → Deliveries D → Type 0
+  DeliveriesOn old new = DeliversOn old.reading new.reading old.items.now new.items.now
+
+  pub deliveries_to_itself : ((disk : D) → (told disk).honest → IsHonest (told disk)) → (d : Deliveries D) → DeliveriesOn d d
+  deliveries_to_itself truth d = delivers_to_itself truth d.reading d.items.now
+
+  pub deliveries_on : (old mid new : Deliveries D) → DeliveriesOn old mid → DeliveriesOn mid new → DeliveriesOn old new
+  deliveries_on old mid new first second = delivers_on old.reading mid.reading new.reading old.items.now mid.items.now new.items.now first second
+
+  -- of those of a repair
+  abbrev pub due_told : DueDeliveries D → BodiesTold
+  due_told d = delivered_told d.reading d.due.now.repair.items
+
+  abbrev pub DueDeliveriesOn : DueDeliveries D → DueDeliveries D → Type 0
+  DueDeliveriesOn old new = DeliversOn old.reading new.reading old.due.now.repair.items new.due.now.repair.items
+
+  pub due_to_itself : ((disk : D) → (told disk).honest → IsHonest (told disk)) → (d : DueDeliveries D) → DueDeliveriesOn d d
+  due_to_itself truth d = delivers_to_itself truth d.reading d.due.now.repair.items
+
+  pub due_on : (old mid new : DueDeliveries D) → DueDeliveriesOn old mid → DueDeliveriesOn mid new → DueDeliveriesOn old new
+  due_on old mid new first second =
+      delivers_on old.reading mid.reading new.reading old.due.now.repair.items mid.due.now.repair.items new.due.now.repair.items first second

@@ -1,5 +1,5 @@
 -- What becomes of a request for a withdrawal.
-use Rattle.std.specs.Prelude.{◌≡◌, ◌⊎◌, ◌≤◌, ◌+◌, ℕ, false, List, length, None, Some, Result, IfErr, IfOk, OnErr, OnOk, IsTrue}
+use Rattle.std.specs.Prelude.{◌≡◌, ◌⊎◌, ◌≤◌, ◌+◌, ℕ, false, List, length, None, Some, Result, IfErr, IfOk, IsErrOf, OnErr, OnOk, IsTrue}
 use Rattle.undo_outside.specs.Disk.{DiskTold, WriteOutOfMemory}
 use Rattle.verb_bytes.specs.declared.journal.JournalRecord.TheVariants.{Withdraw}
 use Rattle.paradox.specs.declared.reports.Report.{Report}
@@ -22,6 +22,7 @@ use Rattle.desk_journal.specs.Lasting.{Lasting}
 use Rattle.desk_journal.specs.Telling.{HoldsHeld}
 use Rattle.time_desk.specs.declared.fault.WithdrawFault.{WithdrawFault}
 use Rattle.time_desk.specs.declared.fault.WithdrawFault.TheVariants.{Cycle, Numbers, Disk, NoMemory, Closed}
+use Rattle.time_desk.specs.Replaying.{ToldOr, withdrawal_reads}
 use Rattle.time_desk.specs.Cycling.{DoesBy, FailsToReadFor, FailsToSeal, IsFit, RedoesCause, RunsOutOfMemoryBy, most_begun, most_reworked}
 
 -- ---- a withdrawal in memory
@@ -35,10 +36,11 @@ pub record IsWithdrawn (kept : Kept) (at of : ℕ) (honest : Type 0) (made : Rew
 
 -- What comes of a request in memory, with nothing counted: the withdrawal that is due, or why there is none.
 pub record WithdrawsAlone {D : Type 0} (told : D → DiskTold) (held : Held) (at of : ℕ) (old new : D) (result : Result Rewound CycleRefused) : Type 0 where
-  pub withdrawn : IfOk result (IsWithdrawn held.kept at of (HoldsHeld (told old) held))
+  pub withdrawn : IfOk result (IsWithdrawn held.kept at of (ToldOr (HoldsHeld (told old) held) (withdrawal_reads held.kept of)))
   pub fit : IfOk result (IsFit held.kept)
   pub refused : IfErr result (IsRefusalBy held.kept of (withdraw_due_anew held.kept at of))
   pub cause : RedoesCause (told old) (told new) result
+  pub due : IsErrOf result refusals.Disk → IsTrue (withdrawal_reads held.kept of)
 
 -- The same with its steps; where none is due nothing was touched.
 pub record WithdrawsInSteps {D : Type 0} (told : D → DiskTold) (held : Held) (at of : ℕ) (old new : D) (same : Type 0) (before after : ℕ) (result : Result Rewound CycleRefused) : Type 0 where
@@ -67,14 +69,15 @@ IsWithdrawalOutcomeOf log_faults.Closed fault = ⊥
 module _ {D : Type 0} (told : D → DiskTold) where
   -- a request at a moment that is answered with a report
   abbrev pub Withdraws : ℕ → List ℕ → ℕ → Lasting D → Lasting D → Report → Type 0
-  Withdraws at key of old new report = DoesBy told (Withdraw old.kept.next at key of) (after_withdrawal old.kept key) old new report (withdraw_due old.kept at key of)
+  Withdraws at key of old new report =
+      DoesBy told (Withdraw old.kept.next at key of) (withdrawal_reads old.kept of) (after_withdrawal old.kept key) old new report (withdraw_due old.kept at key of)
 
   -- why a request has no report: as of a cycle
   abbrev pub WithdrawsNone : ℕ → List ℕ → ℕ → Lasting D → Lasting D → WithdrawFault → Type 0
   WithdrawsNone at key of old new (Cycle given) = (old.closed ≡ false) × (withdraw_due old.kept at key of ≡ NoPoint) × (given ≡ of) × (new ≡ old)
   WithdrawsNone at key of old new (Numbers next) = (old.closed ≡ false) × (withdraw_due old.kept at key of ≡ NoNumbers) × (next ≡ old.kept.next) × (new ≡ old)
   WithdrawsNone at key of old new Disk = (old.closed ≡ false)
-      × (FailsToSeal told (Withdraw old.kept.next at key of) old new (withdraw_due old.kept at key of) ⊎ FailsToReadFor told old new (withdraw_due old.kept at key of))
+      × (FailsToSeal told (Withdraw old.kept.next at key of) old new (withdraw_due old.kept at key of) ⊎ FailsToReadFor told (withdrawal_reads old.kept of) old new (withdraw_due old.kept at key of))
   WithdrawsNone at key of old new NoMemory = RunsOutOfMemoryBy told old new (withdraw_due old.kept at key of)
   WithdrawsNone at key of old new Closed = IsTrue old.closed × (report_of old.kept.reports key ≡ None) × (new ≡ old)
 

@@ -1,5 +1,5 @@
 //! What a cut at a point is made of: the payloads of Format and Base, the bodies in the base, and the later items.
-ghost use Rattle.std.specs.Prelude.{◌≡◌, ◌<◌, ◌≤◌, ◌+◌, ◌++◌, ◌∷◌, [], ℕ, List, Some, length, map, take, drop, is_some, IsTrue, IfOk, IfErr, IsErrOf, OnOk};
+ghost use Rattle.std.specs.Prelude.{◌≡◌, ◌<◌, ◌≤◌, ◌+◌, ◌==◌, ◌&&◌, ◌++◌, ◌∷◌, [], not, ℕ, List, Some, length, map, take, drop, is_some, IsTrue, IfOk, IfErr, IsErrOf, OnOk, false};
 ghost use Rattle.std.specs.List.{AllByRecursion, list_all};
 ghost use Rattle.verb_core.specs.declared.item.Item.{Item as TheItem};
 ghost use Rattle.verb_core.specs.Items.{IsWellFormed, text_in};
@@ -19,10 +19,12 @@ ghost use Rattle.desk_journal.specs.Stored.{HoldsTexts, MarkedBefore, TextsNoted
 ghost use Rattle.desk_journal.specs.Telling.{HoldsHeld, IsOnlyRead, IsPastRead};
 ghost use Rattle.time_desk.specs.Cutting.{AreParts, Cuts, CutsNone, LedBy, bodies_once, body_key, key_body, keys_once};
 ghost use Rattle.time_desk.specs.Planning.{BodiesCause};
+ghost use Rattle.time_desk.specs.Replaying.{some_deliver, store_reads};
 ghost use Rattle.time_desk.specs.Unfiltered.{are_unfiltered, brings_no_filter};
 ghost use Rattle.time_desk.specs.Serving.{CanBegin};
 
 use crate::beginning::beginning;
+use crate::deliveries::Deliveries;
 use crate::plan::copies;
 use crate::redo::new_texts;
 use crate::{CycleFault, Desk};
@@ -205,6 +207,7 @@ fn led<B: Bodies>(
     requires held { AllByRecursion (HoldsOf (B.told bodies.old)) items.now }
     ensures heard { IfOk result (λ made. LedBy store.store items.now made.store) }
     ensures store { (B.told bodies.old).honest → AllByRecursion (StoresOf (B.told bodies.old)) items.now → IfOk result (λ made. made.store ≡ run store.store items.now) }
+    ensures due { IsErrOf result BodiesFault.Failed → are_unfiltered store.store items.now ≡ false }
     ensures reads { Counts (B.told bodies.old) (B.told bodies.new) result }
     ensures leads { B.leads bodies.old bodies.new }
 {
@@ -234,9 +237,10 @@ fn led_behind<B: Bodies>(
 ) -> Result<Store, BodiesFault>
     requires place { place ≤ length desk.now.kept.timeline }
     requires serves { CanBegin desk.now.kept place first }
-    requires texts { TellsAll (B.told bodies.old) desk.now.kept.timeline }
+    requires texts { TellsAll (B.told bodies.old) (take place desk.now.kept.timeline) }
     ensures store { (B.told bodies.old).honest → first.store.store ≡ store_at desk.now.kept first.count → IfOk result (λ made. made.store ≡ store_at desk.now.kept place) }
     ensures texts { IfOk result (λ made. IsTrue (all_bodies (has_text_kept desk.now.kept) made.store.boxes)) }
+    ensures due { IsErrOf result BodiesFault.Failed → are_unfiltered first.store.store (drop first.count (take place desk.now.kept.timeline)) ≡ false }
     ensures reads { Counts (B.told bodies.old) (B.told bodies.new) result }
     ensures leads { B.leads bodies.old bodies.new }
 {
@@ -264,12 +268,16 @@ fn store_from<D: Disk>(
     requires serves { CanBegin desk.now.kept place first }
     ensures store { HoldsHeld (D.told past.old.disk) desk.now → first.store.store ≡ store_at desk.now.kept first.count → IfOk result (λ made. made.store ≡ store_at desk.now.kept place) }
     ensures texts { IfOk result (λ made. IsTrue (all_bodies (has_text_kept desk.now.kept) made.store.boxes)) }
+    ensures due { IsErrOf result BodiesFault.Failed
+        → (are_unfiltered first.store.store (drop first.count (take place desk.now.kept.timeline)) ≡ false) × IsTrue (some_deliver (take place desk.now.kept.timeline)) }
     ensures cause { BodiesCause (D.told past.old.disk) (D.told past.new.disk) result }
     ensures still { IsPastRead D.told past.old past.new }
 {
     desk.stands();
     let texts = new_texts(alloc, &[])?;
-    let mut bodies = Reading::of(past, desk, &texts, desk.next());
+    let reading = Reading::of(past, desk, &texts, desk.next());
+    let items = desk.all_items().split_at(place).0;
+    let mut bodies = Deliveries { reading, items };
     led_behind(alloc, desk, first, &mut bodies, place)
 }
 
@@ -285,6 +293,7 @@ fn store_through<D: Disk>(
     requires place { place ≤ length desk.now.kept.timeline }
     ensures store { HoldsHeld (D.told past.old.disk) desk.now → IfOk result (λ made. made.store ≡ store_at desk.now.kept place) }
     ensures texts { IfOk result (λ made. IsTrue (all_bodies (has_text_kept desk.now.kept) made.store.boxes)) }
+    ensures due { IsErrOf result BodiesFault.Failed → IsTrue (store_reads desk.now.kept place) }
     ensures cause { BodiesCause (D.told past.old.disk) (D.told past.new.disk) result }
     ensures still { IsPastRead D.told past.old past.new }
 {
@@ -462,6 +471,7 @@ fn parts_behind<D: Disk>(
     ensures bodies { IfOk result (λ parts. IsTrue (list_all (has_text_kept desk.now.kept) parts.bodies)) }
     ensures texts { IfOk result (λ parts. AllByRecursion (λ (i : TheItem). IsTrue (is_some (text_in i.deed)) → IsTrue (has_text_kept desk.now.kept (body_of i))) parts.kept) }
     ensures spelled { IfOk result (λ parts. AllByRecursion (λ (i : TheItem). HasSpelling (KeptRecord i)) parts.kept) }
+    ensures due { IsErrOf result BodiesFault.Failed → IsTrue (store_reads desk.now.kept place) }
     ensures cause { BodiesCause (D.told past.old.disk) (D.told past.new.disk) result }
     ensures still { IsPastRead D.told past.old past.new }
 {
@@ -502,6 +512,7 @@ fn parts_at<D: Disk>(
     ensures bodies { IfOk result (λ parts. IsTrue (list_all (has_text_kept desk.now.kept) parts.bodies)) }
     ensures texts { IfOk result (λ parts. AllByRecursion (λ (i : TheItem). IsTrue (is_some (text_in i.deed)) → IsTrue (has_text_kept desk.now.kept (body_of i))) parts.kept) }
     ensures spelled { IfOk result (λ parts. AllByRecursion (λ (i : TheItem). HasSpelling (KeptRecord i)) parts.kept) }
+    ensures due { IsErrOf result BodiesFault.Failed → IsTrue (not (place == length desk.now.kept.timeline) && store_reads desk.now.kept place) }
     ensures cause { BodiesCause (D.told past.old.disk) (D.told past.new.disk) result }
     ensures still { IsPastRead D.told past.old past.new }
     // Behind all items nothing is read.

@@ -1,29 +1,54 @@
-//! The texts that a plan asks for: those of the deliveries in force, and no other.
-ghost use Rattle.time_desk.specs.Replaying.{DeliversOn, deliveries_told, delivers_on, delivers_to_itself};
+//! The texts that items ask for which are performed again: those of deliveries, and no other.
+ghost use Rattle.time_desk.specs.Replaying.{DeliveriesOn, DueDeliveriesOn, deliveries_on, deliveries_to_itself, deliveries_told, due_on, due_to_itself, due_told};
 
 use desk_journal::Reading;
+use mail_cycle::Due;
 use std::alloc::Global;
+use stored_items::StoredItem;
 use undo_base::Text;
 use undo_outside::Disk;
 use verb_core::{Bodies, BodiesFault, Body};
 
-/// The deliveries in force of a desk that is read.
+/// The deliveries among items of a desk that is read.
 #[derive(Drop)]
 pub(crate) struct Deliveries<'a, D: Disk> {
     /// The desk's texts.
     pub(crate) reading: Reading<'a, D>,
+    pub(crate) items: &'a [StoredItem],
 }
 
 impl<'a, D: Disk> Bodies for Deliveries<'a, D> {
     ghost told = { deliveries_told D.told };
 
-    ghost leads = { DeliversOn D.told };
+    ghost leads = { DeliveriesOn D.told };
 
     fn text(&mut self, alloc: Global, body: Body) -> Result<Text, BodiesFault> {
         self.reading.text(alloc, body)
     }
 
-    ghost leads_to_itself = { delivers_to_itself D.told D.tells_truth };
+    ghost leads_to_itself = { deliveries_to_itself D.told D.tells_truth };
 
-    ghost leads_on = { delivers_on D.told };
+    ghost leads_on = { deliveries_on D.told };
+}
+
+/// The deliveries among the items of a repair that is due.
+#[derive(Drop)]
+pub(crate) struct DueDeliveries<'a, 'b, D: Disk> {
+    /// The desk's texts, and those that the repair brings.
+    pub(crate) reading: Reading<'a, D>,
+    pub(crate) due: &'a Due<'b>,
+}
+
+impl<'a, 'b, D: Disk> Bodies for DueDeliveries<'a, 'b, D> {
+    ghost told = { due_told D.told };
+
+    ghost leads = { DueDeliveriesOn D.told };
+
+    fn text(&mut self, alloc: Global, body: Body) -> Result<Text, BodiesFault> {
+        self.reading.text(alloc, body)
+    }
+
+    ghost leads_to_itself = { due_to_itself D.told D.tells_truth };
+
+    ghost leads_on = { due_on D.told };
 }

@@ -177,7 +177,8 @@ fn plan_reading<D: Disk>(
     desk.stands();
     let texts = new_texts(alloc, &[])?;
     let reading = Reading::of(past, desk, &texts, desk.next());
-    let mut bodies = Deliveries { reading };
+    let items = desk.all_items();
+    let mut bodies = Deliveries { reading, items };
     plan_behind(alloc, desk, first, &mut bodies, place)
 }
 

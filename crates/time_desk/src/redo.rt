@@ -1,18 +1,20 @@
 //! A repair in memory, beside the desk: of a cycle, of a trial of one, and of a withdrawal. It is also of those of the journal that
 //! are performed again where a desk is started, one item after the other, since there are no workers.
-ghost use Rattle.std.specs.Prelude.{◌≡◌, ◌<◌, ◌≤◌, ℕ, Some, IsTrue, IfOk, IfErr};
+ghost use Rattle.std.specs.Prelude.{◌≡◌, ◌<◌, ◌≤◌, ℕ, Some, false, IsErrOf, IsTrue, IfOk, IfErr};
 ghost use Rattle.store_kept.specs.Kept.{undone_of};
 ghost use Rattle.repair_desk.specs.Repairs.{are_known};
 ghost use Rattle.mail_cycle.specs.Tasks.{Begins};
 ghost use Rattle.mail_desk.specs.Remaking.{CanReplace, remade_as};
 ghost use Rattle.time_desk.specs.Cycling.{CanBeUndone, CanRework, IsFit, RedoesAlone, RedoesCycle, Reworks, after_rewound, asked_then};
 ghost use Rattle.time_desk.specs.Planning.{BodiesCause};
+ghost use Rattle.time_desk.specs.Replaying.{some_marked};
 ghost use Rattle.time_desk.specs.Serving.{IsNewest, CanBegin, unmarked};
 ghost use Rattle.time_desk.specs.Withdrawing.{WithdrawsAlone, WithdrawsInSteps};
 ghost use Rattle.desk_journal.specs.Stored.{AreNoted, MarkedBefore, Renotes};
 ghost use Rattle.desk_journal.specs.Telling.{HoldsHeld, IsOnlyRead, IsPastRead};
 
 use crate::beginning::beginning;
+use crate::deliveries::DueDeliveries;
 use box_store::Steps;
 use cycle_rules::laws::cycles_can_be_withdrawn;
 use desk_journal::{Journal, NewTexts, Past, Reading};
@@ -76,6 +78,8 @@ fn prepared<D: Disk>(
     ensures serves { IfOk result (CanBegin desk.now.kept due.now.repair.place) }
     ensures begins { IfOk result (Begins due.now) }
     ensures newest { HoldsHeld (D.told past.old.disk) desk.now → IfOk result (IsNewest desk.now.kept due.now.repair.place) }
+    ensures first { some_marked desk.now.kept due.now.repair.place ≡ false → IfOk result (λ first. (first.count ≡ 0) × (first.store.store ≡ desk.now.kept.base)) }
+    ensures due { IsErrOf result BodiesFault.Failed → IsTrue (some_marked desk.now.kept due.now.repair.place) }
     ensures cause { BodiesCause (D.told past.old.disk) (D.told past.new.disk) result }
     ensures still { IsPastRead D.told past.old past.new }
 {
@@ -107,7 +111,8 @@ pub(crate) fn rewound<R: Threads + Sync, G: Gate, D: Disk, L: Ledger>(
     bodies_have_texts();
     let first = prepared(alloc, past, desk, due)?;
     let texts = new_texts(alloc, due.texts())?;
-    let mut bodies = Reading::of(past, desk, &texts, desk.next());
+    let reading = Reading::of(past, desk, &texts, desk.next());
+    let mut bodies = DueDeliveries { reading, due };
     rework_by_levels(rt, alloc, due, first, &mut bodies, gate, steps)
 }
 
@@ -130,7 +135,8 @@ fn again<D: Disk, L: Ledger>(
     bodies_have_texts();
     let first = prepared(alloc, past, desk, due)?;
     let texts = new_texts(alloc, due.texts())?;
-    let mut bodies = Reading::of(past, desk, &texts, desk.next());
+    let reading = Reading::of(past, desk, &texts, desk.next());
+    let mut bodies = DueDeliveries { reading, due };
     rework_in_order(alloc, due, first, &mut bodies, steps)
 }
 

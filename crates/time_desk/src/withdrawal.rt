@@ -14,6 +14,7 @@ ghost use Rattle.mail_cycle.specs.Leaving.{items_left};
 ghost use Rattle.mail_cycle.specs.Permanence.{UidsLast};
 ghost use Rattle.mail_desk.specs.Remaking.{CanReplace, remade_as};
 ghost use Rattle.time_desk.specs.Cycling.{IsFit, after_rewound, asked_then, most_begun, most_reworked};
+ghost use Rattle.time_desk.specs.Replaying.{ToldOr, withdrawal_reads};
 ghost use Rattle.time_desk.specs.Withdrawing.{IsRetold, IsWithdrawalOutcomeOf, IsWithdrawn, WithdrawalWants, Withdraws, WithdrawsNone};
 ghost use Rattle.desk_journal.specs.Lasting.{lasting};
 ghost use Rattle.desk_journal.specs.Reading.{ReadsWell};
@@ -149,7 +150,7 @@ fn withdrawal_made<D: Disk>(
     requires anew { report_of desk.old.kept.reports key.now ≡ None }
     requires fit { IsFit desk.old.kept made }
     requires noted { AreNoted journal.old.gate desk.old }
-    ensures done { (disk : D) → ReadsAlone (D.told disk) (D.told journal.old.disk) → IsWithdrawn desk.old.kept at of (HoldsTexts D.told (lasting desk.old (record journal.old { disk = disk }))) made
+    ensures done { (disk : D) → ReadsAlone (D.told disk) (D.told journal.old.disk) → IsWithdrawn desk.old.kept at of (ToldOr (HoldsTexts D.told (lasting desk.old (record journal.old { disk = disk }))) (withdrawal_reads desk.old.kept of)) made
         → IfOk result (λ report. Withdraws D.told at key.now of (lasting desk.old (record journal.old { disk = disk })) (lasting desk.new journal.new) report) }
     ensures noted { IsWithdrawn desk.old.kept at of ⊥ made → AreNoted journal.new.gate desk.new }
     ensures timeline { OnOk result (desk.new.kept.timeline ≡ items_left desk.old.kept.timeline made) }
@@ -160,7 +161,7 @@ fn withdrawal_made<D: Disk>(
     ensures finds_memory { OnOk result (FindsMemory (D.told journal.old.disk) (D.told journal.new.disk)) }
     ensures wants { IfErr result (λ fault. WithdrawalWants D.told journal.old.disk journal.new.disk fault) }
     ensures why { (disk : D) → ReadsAlone (D.told disk) (D.told journal.old.disk) → (D.told journal.old.disk).failed_reads ≡ (D.told disk).failed_reads
-        → IsWithdrawn desk.old.kept at of (HoldsTexts D.told (lasting desk.old (record journal.old { disk = disk }))) made
+        → IsWithdrawn desk.old.kept at of (ToldOr (HoldsTexts D.told (lasting desk.old (record journal.old { disk = disk }))) (withdrawal_reads desk.old.kept of)) made
         → IfErr result (λ fault. WithdrawsNone D.told at key.now of (lasting desk.old (record journal.old { disk = disk })) (lasting desk.new journal.new) fault) }
 {
     desk.stands();

@@ -1,4 +1,4 @@
-use Rattle.std.proofs.Common.{rules, ◌≡◌, List, true, drop, take, subst, sym}
+use Rattle.std.proofs.Common.{rules, ◌≡◌, List, true, false, drop, take, subst, sym}
 use Rattle.std.specs.List.{AllByRecursion}
 use Rattle.std.specs.Prelude.{IfOk}
 use Rattle.verb_core.specs.declared.item.Item.{Item}
@@ -10,6 +10,7 @@ use Rattle.box_store.specs.Kept.{Kept as StoreKept}
 use Rattle.replay_crew.specs.Hearing.{HoldsOf, StoresOf}
 use Rattle.mail_cycle.proofs.Parted.{if_ok}
 use Rattle.time_desk.specs.Cutting.{LedBy}
+use Rattle.time_desk.specs.Unfiltered.{are_unfiltered}
 use Rattle.time_desk.proofs.CutStores.{between_formed, between_held, between_stored, bodies_behind, led_on}
 use Rattle.time_desk.proofs.cut.led_behind.Goals as goal
 
@@ -38,6 +39,12 @@ returns-clause-store g c = λ honest is.
     subst (λ (s : MailStore). IfOk c.led.result (λ made. made.store ≡ s)) (led_on kept first.store.store first.count c.args.place c.requires.serves.few is)
     (subst (λ (items : List Item). IfOk c.led.result (λ made. made.store ≡ run first.store.store items)) items
     (c.led.ensures.store honest (subst (AllByRecursion (StoresOf told)) (sym items) (between_stored told first.count c.args.place kept.timeline honest c.requires.texts))))
+
+-- a text is read only where a filter may look at one of these items'
+pub returns-clause-due : goal.returns-clause-due
+returns-clause-due g c = λ failed.
+    let items : c.between.result.now ≡ drop c.args.first.count (take c.args.place c.args.desk.now.kept.timeline) = search rules in
+    subst (λ (items : List Item). are_unfiltered c.args.first.store.store items ≡ false) items (c.led.ensures.due failed)
 
 -- whatever texts of deliveries were read, each body has one
 pub returns-clause-texts : goal.returns-clause-texts

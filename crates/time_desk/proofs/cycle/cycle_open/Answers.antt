@@ -1,5 +1,6 @@
 use Rattle.std.proofs.Common.{IfErr, IfOk, ap, arith, subst, sym, ℕ}
 use Rattle.time_desk.specs.Cycling.{Cycles, CyclesNone}
+use Rattle.time_desk.specs.Replaying.{ToldOr, cycle_reads}
 use Rattle.desk_journal.specs.Lasting.{Lasting, lasting}
 use Rattle.desk_journal.specs.Stored.{AreNoted}
 use Rattle.desk_journal.specs.Telling.{HoldsHeld}
@@ -24,7 +25,7 @@ returns-in-Ok-clause-done g c =
 
 pub returns-in-Ok-clause-noted : goal.returns-in-Ok-clause-noted
 returns-in-Ok-clause-noted g c =
-    c.cycle_made.ensures.noted (made_unread g.D.Disk.told c.args.desk.now.kept c.args.at c.args.ask (HoldsHeld (g.D.Disk.told c.args.journal.now.disk) c.args.desk.now) c.in-Ok.made c.in-Ok.ensures.redoes.alone.cycled)
+    c.cycle_made.ensures.noted (made_unread g.D.Disk.told c.args.desk.now.kept c.args.at c.args.ask (ToldOr (HoldsHeld (g.D.Disk.told c.args.journal.now.disk) c.args.desk.now) (cycle_reads c.args.desk.now.kept c.args.at c.args.ask)) c.in-Ok.made c.in-Ok.ensures.redoes.alone.cycled)
 
 pub returns-in-Ok-clause-why : goal.returns-in-Ok-clause-why
 returns-in-Ok-clause-why g c =
@@ -45,7 +46,7 @@ returns-in-Err-clause-why g c =
     let read = lasting c.args.desk.now c.cycle.new.journal in
     let still = still_read g.D.Disk.told c.args.desk.now c.args.journal.now c.cycle.new.journal told.still in
     refused g.D.Disk.told c.args.at c.args.ask old read c.in-Err.refused c.refused_as.result still (seals_still g.D.Disk.told old read still)
-    (λ none. ap (lasting c.args.desk.now) (told.redoes.untouched none)) c.requires.anew c.requires.open told.redoes.alone.refused told.redoes.alone.cause c.refused_as.ensures
+    (λ none. ap (lasting c.args.desk.now) (told.redoes.untouched none)) c.requires.anew c.requires.open told.redoes.alone.refused told.redoes.alone.cause told.redoes.alone.due c.refused_as.ensures
 
 pub returns-in-Ok-clause-rewinds : goal.returns-in-Ok-clause-rewinds
 returns-in-Ok-clause-rewinds g c = λ due is holds. any_ok c.cycle_made.result (c.in-Ok.ensures.redoes.few due is (holds.payloads, holds.texts))
@@ -72,7 +73,7 @@ returns-in-Ok-clause-most g c = λ due is holds.
 pub returns-in-Ok-clause-few : goal.returns-in-Ok-clause-few
 returns-in-Ok-clause-few g c =
     any_err c.cycle_made.result
-    (omega (arith, c.in-Ok.ensures.redoes.steps, made_few c.args.desk.now.kept c.args.at c.args.ask (HoldsHeld (g.D.Disk.told c.args.journal.now.disk) c.args.desk.now) c.in-Ok.made c.in-Ok.ensures.redoes.alone.cycled))
+    (omega (arith, c.in-Ok.ensures.redoes.steps, made_few c.args.desk.now.kept c.args.at c.args.ask (ToldOr (HoldsHeld (g.D.Disk.told c.args.journal.now.disk) c.args.desk.now) (cycle_reads c.args.desk.now.kept c.args.at c.args.ask)) c.in-Ok.made c.in-Ok.ensures.redoes.alone.cycled))
 
 pub returns-in-Err-clause-most : goal.returns-in-Err-clause-most
 returns-in-Err-clause-most g c = λ due is holds. c.in-Err.ensures.redoes.most due is (holds.payloads, holds.texts)

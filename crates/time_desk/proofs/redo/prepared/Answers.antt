@@ -1,5 +1,7 @@
-use Rattle.std.proofs.Common.{◌∙◌, ap, subst, sym, ℕ}
+use Rattle.std.proofs.Common.{◌∙◌, Err, ap, subst, sym, true, false, ◌≡◌, ℕ}
 use Rattle.store_kept.specs.Kept.{Kept}
+use Rattle.seal_log.specs.declared.fault.ReadFault.{ReadFault}
+use Rattle.time_desk.specs.Replaying.{some_marked}
 use Rattle.time_desk.specs.Serving.{IsNewest, CanBegin}
 use Rattle.time_desk.proofs.redo.prepared.Goals as goal
 
@@ -15,3 +17,11 @@ returns-in-Ok-clause-begins g c = record {
 
 pub returns-in-Ok-clause-newest : goal.returns-in-Ok-clause-newest
 returns-in-Ok-clause-newest g c = λ holds. subst (λ (n : ℕ). IsNewest c.args.desk.now.kept n c.in-Ok.first) c.place.ensures.place (c.in-Ok.ensures.newest holds)
+
+-- without a snapshot it is the store before the first item
+pub returns-in-Ok-clause-first : goal.returns-in-Ok-clause-first
+returns-in-Ok-clause-first g c = λ none. c.in-Ok.ensures.first (ap (some_marked c.args.desk.now.kept) c.place.ensures.place ∙ none)
+
+pub returns-in-Err-Disk-clause-due : goal.returns-in-Err-Disk-clause-due
+returns-in-Err-Disk-clause-due g c = λ failed.
+    sym (ap (some_marked c.args.desk.now.kept) c.place.ensures.place) ∙ c.beginning.ensures.due (c.in-Err-Disk.is ∙ ap (λ (f : ReadFault). Err f) c.in-Err-Disk.field-0-is)

@@ -1,4 +1,5 @@
 use Rattle.std.proofs.Common.{IfErr, IfOk, ap, arith, subst, sym, ℕ}
+use Rattle.time_desk.specs.Replaying.{ToldOr, withdrawal_reads}
 use Rattle.time_desk.specs.Withdrawing.{WithdrawsNone, Withdraws}
 use Rattle.desk_journal.specs.Lasting.{Lasting, lasting}
 use Rattle.desk_journal.specs.Stored.{AreNoted}
@@ -25,7 +26,7 @@ returns-in-Ok-clause-done g c =
 pub returns-in-Ok-clause-noted : goal.returns-in-Ok-clause-noted
 returns-in-Ok-clause-noted g c =
     c.withdrawal_made.ensures.noted
-    (withdrawn_weaker c.args.desk.now.kept c.args.at c.args.of (HoldsHeld (g.D.Disk.told c.args.journal.now.disk) c.args.desk.now) ⊥ c.in-Ok.made (λ never. absurd never) c.in-Ok.ensures.redoes.alone.withdrawn)
+    (withdrawn_weaker c.args.desk.now.kept c.args.at c.args.of (ToldOr (HoldsHeld (g.D.Disk.told c.args.journal.now.disk) c.args.desk.now) (withdrawal_reads c.args.desk.now.kept c.args.of)) ⊥ c.in-Ok.made (λ never. absurd never) c.in-Ok.ensures.redoes.alone.withdrawn)
 
 pub returns-in-Ok-clause-why : goal.returns-in-Ok-clause-why
 returns-in-Ok-clause-why g c =
@@ -46,7 +47,7 @@ returns-in-Err-clause-why g c =
     let read = lasting c.args.desk.now c.withdrawal.new.journal in
     let still = still_read g.D.Disk.told c.args.desk.now c.args.journal.now c.withdrawal.new.journal told.still in
     refused g.D.Disk.told c.args.at c.args.key.now c.args.of old read c.in-Err.refused c.refused_as.result still (seals_still g.D.Disk.told old read still)
-    (λ none. ap (lasting c.args.desk.now) (told.redoes.untouched none)) c.requires.anew c.requires.open told.redoes.alone.refused told.redoes.alone.cause c.refused_as.ensures
+    (λ none. ap (lasting c.args.desk.now) (told.redoes.untouched none)) c.requires.anew c.requires.open told.redoes.alone.refused told.redoes.alone.cause told.redoes.alone.due c.refused_as.ensures
 
 pub returns-in-Ok-clause-withdraws : goal.returns-in-Ok-clause-withdraws
 returns-in-Ok-clause-withdraws g c = λ last is holds. any_ok c.withdrawal_made.result (c.in-Ok.ensures.redoes.few last is (holds.payloads, holds.texts))
@@ -73,7 +74,7 @@ returns-in-Ok-clause-most g c = λ last is holds.
 pub returns-in-Ok-clause-few : goal.returns-in-Ok-clause-few
 returns-in-Ok-clause-few g c =
     any_err c.withdrawal_made.result
-    (omega (arith, c.in-Ok.ensures.redoes.steps, withdrawn_few c.args.desk.now.kept c.args.at c.args.of (HoldsHeld (g.D.Disk.told c.args.journal.now.disk) c.args.desk.now) c.in-Ok.made c.in-Ok.ensures.redoes.alone.withdrawn c.stands.ensures.undone))
+    (omega (arith, c.in-Ok.ensures.redoes.steps, withdrawn_few c.args.desk.now.kept c.args.at c.args.of (ToldOr (HoldsHeld (g.D.Disk.told c.args.journal.now.disk) c.args.desk.now) (withdrawal_reads c.args.desk.now.kept c.args.of)) c.in-Ok.made c.in-Ok.ensures.redoes.alone.withdrawn c.stands.ensures.undone))
 
 pub returns-in-Err-clause-most : goal.returns-in-Err-clause-most
 returns-in-Err-clause-most g c = λ last is holds. c.in-Err.ensures.redoes.most last is (holds.payloads, holds.texts)
