@@ -1,7 +1,7 @@
 -- Items that are performed where no filter is in force: nothing looks at their texts.
 use Rattle.std.proofs.Common.{arith, ◌≡◌, ◌&&◌, ℕ, Bool, Result, Ok, Err, true, false, true≢false, List, [], ◌∷◌, Option, Some, None, option_map, unwrap_or, refl, sym, ap, ◌∙◌, subst}
 use Rattle.std.specs.List.{AllByRecursion, list_all}
-use Rattle.std.specs.Prelude.{IsErrOf}
+use Rattle.std.specs.Prelude.{IsErrOf, IsTrue, ◌↔◌}
 use Rattle.verb_core.specs.declared.bodies.BodiesFault.{BodiesFault}
 use Rattle.verb_core.specs.declared.bodies.BodiesFault.TheVariants.{Failed, NoMemory}
 use Rattle.verb_core.specs.declared.conf.Conf.{Conf}
@@ -30,6 +30,12 @@ use Rattle.time_desk.specs.Unfiltered.{all_empty, are_unfiltered, brings_no_filt
 none_in : {X : Type 0} (xs : List X) → is_empty xs ≡ true → xs ≡ []
 none_in [] none = refl
 none_in (x ∷ xs) none = absurd (true≢false (sym none))
+
+pub empty_or_not : {X : Type 0} (xs : List X) (b : Bool) → (IsTrue b ↔ (xs ≡ [])) → b ≡ is_empty xs
+empty_or_not [] true same = refl
+empty_or_not [] false same = same.1 refl
+empty_or_not (x ∷ xs) true same = absurd (cc (same.0 refl))
+empty_or_not (x ∷ xs) false same = refl
 
 -- where there are no filters none decides
 none_decides : (conf : Conf) (from one other : List ℕ) (to : List (List ℕ)) → conf.filters ≡ [] → deciding conf from to one ≡ deciding conf from to other

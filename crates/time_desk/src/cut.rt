@@ -3,6 +3,7 @@ ghost use Rattle.std.specs.Prelude.{◌≡◌, ◌<◌, ◌≤◌, ◌+◌, ◌=
 ghost use Rattle.std.specs.List.{AllByRecursion, list_all};
 ghost use Rattle.verb_core.specs.declared.item.Item.{Item as TheItem};
 ghost use Rattle.verb_core.specs.Items.{IsWellFormed, text_in};
+ghost use Rattle.verb_core.specs.Names.{is_empty};
 ghost use Rattle.verb_core.specs.Step.{run};
 ghost use Rattle.verb_core.specs.Store.{IsValid};
 ghost use Rattle.verb_bytes.specs.declared.journal.JournalRecord.TheVariants.{Base as BaseRecord, Format, Kept as KeptRecord};
@@ -104,11 +105,25 @@ fn item_brings_no_filter(item: &StoredItem) -> bool
     }
 }
 
+/// Whether no filter is in force.
+fn has_no_filter(store: &Store) -> bool
+    ensures { result ≡ is_empty store.now.store.conf.filters }
+{
+    store.conf().filters.is_empty()
+}
+
+/// Whether no item brings a filter.
+fn bring_no_filter(items: &[StoredItem]) -> bool
+    ensures { result ≡ list_all (λ (i : TheItem). brings_no_filter i.deed) items.now }
+{
+    items.iter().all(|item| item_brings_no_filter(item))
+}
+
 /// Whether nothing looks at the text of an item that is performed on a store: no filter is in force, and none comes.
 fn none_looks(store: &Store, items: &[StoredItem]) -> bool
     ensures { result ≡ are_unfiltered store.now.store items.now }
 {
-    store.conf().filters.is_empty() && items.iter().all(|item| item_brings_no_filter(item))
+    has_no_filter(store) && bring_no_filter(items)
 }
 
 // ---- the store of the base
