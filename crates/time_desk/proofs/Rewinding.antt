@@ -663,8 +663,9 @@ module _ {D : Type 0} (told : D → DiskTold) (disk : D) (before after : Held) (
   abbrev First : Lasting D
   First = lasting before (record old { disk = disk })
 
-  abbrev Told : Type 0
-  Told = ToldOr (HoldsTexts told First) (cycle_reads before.kept at ask)
+  -- where the texts lie there as they are noted, or none is to be read
+  abbrev FirstTold : Type 0
+  FirstTold = ToldOr (HoldsTexts told First) (cycle_reads before.kept at ask)
 
   module _ (red : CyclesAs told First at ask made) (anew : report_of before.kept.reports ask.key ≡ None) (bytes_are : bytes ≡ record_bytes (Cycle before.kept.next at ask))
       (spelled : is_spelled (Cycle before.kept.next at ask) ≡ true) (known : are_known before.kept.house ask.inserts ≡ true) (open_ : old.closed ≡ false) where
@@ -682,17 +683,17 @@ module _ {D : Type 0} (told : D → DiskTold) (disk : D) (before after : Held) (
         left_is : HoldsTexts told First → after_cycle before.kept ask (cycled_at before.kept at ask red.is_made.place) ≡ after.kept
         left_is holds =
             let is = red.is_made in
-            after_is before.kept at ask is.place made (made_whole before.kept at (repair_of before.kept at ask is.place) Told made is.is_made (inl holds)) ∙ sym kept_is
+            after_is before.kept at ask is.place made (made_whole before.kept at (repair_of before.kept at ask is.place) FirstTold made is.is_made (inl holds)) ∙ sym kept_is
 
         marked : HoldsTexts told First → (payloads : List (List ℕ)) → LiesAt payloads old.gate (length bytes) bytes → IsRun before.kept → MarksLie payloads before.kept before.marks → MarksLie payloads after.kept after.marks
         marked holds payloads at_place runs all = subst (MarksLie payloads after.kept) (sym marks_are)
-            (made_marks payloads before.kept after.kept at ask Told made before.marks (inl holds) red.is_made (ap (λ (k : Kept). k.base) kept_is) (ap (λ (k : Kept). k.timeline) kept_is) all)
+            (made_marks payloads before.kept after.kept at ask FirstTold made before.marks (inl holds) red.is_made (ap (λ (k : Kept). k.base) kept_is) (ap (λ (k : Kept). k.timeline) kept_is) all)
 
         lies : HoldsTexts told First → (payloads : List (List ℕ)) → LiesAt payloads old.gate (length bytes) bytes → TextsStored payloads before.notes before.kept → TextsStored payloads after.notes after.kept
         lies holds payloads at_place all =
             let where_ : Place = record { gate = old.gate; length = length bytes } in
             let whole = sound holds.texts.runs in
-            put_lies before after at ask Told made where_ bytes renotes.fresh (subst (λ (b : List ℕ). IsFresh before.kept.next at ask where_ b renotes.fresh) (sym bytes_are) renotes.is_fresh)
+            put_lies before after at ask FirstTold made where_ bytes renotes.fresh (subst (λ (b : List ℕ). IsFresh before.kept.next at ask where_ b renotes.fresh) (sym bytes_are) renotes.is_fresh)
             red.is_made fit.timeline.apart ask.key kept_is sizes whole.base whole.timeline.apart whole.below whole.undone renotes.renotes payloads at_place (inl holds) holds.texts.revs holds.texts.back all
 
     -- it was not

@@ -6,7 +6,7 @@ use Rattle.time_desk.proofs.cut.parts_now.Goals as goal
 
 -- the store at hand is that of all items
 pub returns-in-Ok-clause-parts : goal.returns-in-Ok-clause-parts
-returns-in-Ok-clause-parts g c = λ runs.
+returns-in-Ok-clause-parts c = λ runs.
     let kept = c.args.desk.now.kept in
     c.in-Ok.ensures.parts (c.store.ensures.value ∙ runs
     ∙ ap (run kept.base) (sym (take-length kept.timeline) ∙ ap (λ n. take n kept.timeline) (sym c.requires)))

@@ -10,5 +10,5 @@ use Rattle.time_desk.proofs.plan.plan_reading.Goals as goal
 pub plan_behind-requires-clause-texts : goal.plan_behind-requires-clause-texts
 plan_behind-requires-clause-texts g c =
     let r = c.of-reading.ensures in
-    tells_deliveries g.D.Disk.told c.of-reading.result c.all_items.result.now c.args.desk.now.kept.timeline c.all_items.ensures c.stands.ensures.timeline.apart
+    tells_deliveries g.D.Disk.told c.of-reading.result c.all_items-items.result.now c.args.desk.now.kept.timeline c.all_items-items.ensures c.stands.ensures.timeline.apart
     (tells_timeline g.D.Disk.told c.of-reading.result c.args.past.now c.args.desk.now _ r.past.1 r.desk r.replaces (r.cycle ∙ c.next.ensures) r.failed c.stands.ensures.timeline.apart c.requires.noted c.stands.ensures.undone)
