@@ -121,14 +121,18 @@ module _ {D : Type 0} (told : D → DiskTold) where
   made_turn : (some : Bool) (what : JournalRecord) (left : Cycled → Kept) (due : Cycled) (report : Report) (old new : Lasting D) (r : Reply) → IsMade some left due report old new
       → Seals told (what ∷ []) [] old new → ReadsWell told old new → FindsMemory (told old.disk) (told new.disk) → new.kept ≡ left due → TellsOnly (answer 200 (report_data old.kept.house report)) Rewinds r
       → IsSame (report_text old report) (report_text old due.report) → Goes some what left due old new r
-  made_turn some what left due report old new r made seals well finds_memory kept (inl e) (inl same) =
-      (Clear, turn_at told _ _ old new r (clear_is some old.kept (rewound old.kept what left due) (failed old.kept what))
-          (record { reply_is = e ∙ ap (λ (t : List ℕ). reply t Rewinds) same; kept = kept; seals = seals; read = reads_well told old new well; out_of_memory = none_out_of_memory told old new finds_memory }))
+  made_turn some what left due report old new r made seals well finds_memory kept (inl e) (inl same) = (
+    Clear,
+    turn_at told _ _ old new r (clear_is some old.kept (rewound old.kept what left due) (failed old.kept what))
+        (record { reply_is = e ∙ ap (λ (t : List ℕ). reply t Rewinds) same; kept = kept; seals = seals; read = reads_well told old new well; out_of_memory = none_out_of_memory told old new finds_memory }),
+  )
   made_turn some what left due report old new r made seals well finds_memory kept (inl e) (inr other) =
       misread_turn some what left due (report_text old report) old new r seals well finds_memory e (λ h. other (ap (report_text old) (made h).0))
-  made_turn some what left due report old new r made seals well finds_memory kept (inr e) same =
-      (Unanswered, turn_at told _ _ old new r (unanswered_is some old.kept (rewound old.kept what left due) (failed old.kept what))
-          (record { reply_is = e; kept = kept; seals = seals; read = reads_well told old new well; out_of_memory = none_out_of_memory told old new finds_memory }))
+  made_turn some what left due report old new r made seals well finds_memory kept (inr e) same = (
+    Unanswered,
+    turn_at told _ _ old new r (unanswered_is some old.kept (rewound old.kept what left due) (failed old.kept what))
+        (record { reply_is = e; kept = kept; seals = seals; read = reads_well told old new well; out_of_memory = none_out_of_memory told old new finds_memory }),
+  )
 
   rewound_turn : (some : Bool) (what : JournalRecord) (left : Cycled → Kept) (due : Cycled) (report : Report) (old new : Lasting D) (r : Reply) → IsMade some left due report old new
       → Seals told (what ∷ []) [] old new → ReadsWell told old new → FindsMemory (told old.disk) (told new.disk) → TellsOnly (answer 200 (report_data old.kept.house report)) Rewinds r → IsSame new.kept (left due)

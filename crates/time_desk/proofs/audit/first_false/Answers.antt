@@ -14,7 +14,7 @@ pick (inl a) f g = f a
 pick (inr b) f g = g b
 
 true_not_false : {P : Type 0} (truth : Bool) → truth ≡ true → truth ≡ false → P
-true_not_false truth yes no = let clash : ◌≡◌ {A = Bool} true false = sym yes ∙ no in absurd (cc clash)
+true_not_false truth is other = let clash : ◌≡◌ {A = Bool} true false = sym is ∙ other in absurd (cc clash)
 
 pub loop-place-preserved : goal.loop-place-preserved
 loop-place-preserved g c = record {

@@ -1,4 +1,4 @@
-use Rattle.std.proofs.Common.{◌∙◌, ℕ, false, List, length, subst, sym, ap}
+use Rattle.std.proofs.Common.{◌∙◌, ℕ, false, List, Some, length, subst, sym, ap}
 use Rattle.seal_log.specs.Journal.{sealed}
 use Rattle.seal_log.specs.Loading.{places_from}
 use Rattle.desk_journal.specs.Going.{read_on}
@@ -36,7 +36,8 @@ returns-in-Ok-clause-unread g c payloads records u held are =
 
 pub returns-in-Err-Damaged-clause-unread : goal.returns-in-Err-Damaged-clause-unread
 returns-in-Err-Damaged-clause-unread g c payloads records u held are =
-    breaks_unread c.one_spelling.ensures.one_record payloads records c.args.past.now.end c.in-Err-Damaged.place u
+    ap Some c.in-Err-Damaged.place-is
+    ∙ breaks_unread c.one_spelling.ensures.one_record payloads records c.args.past.now.end c.in-Err-Damaged.place u
     (subst (FrontBreaksFor false c.args.past.now.end payloads) c.in-Err-Damaged.field-0-is (c.in-Err-Damaged.ensures.bad payloads held are))
 
 pub returns-in-Err-NotFormatted-clause-unread : goal.returns-in-Err-NotFormatted-clause-unread

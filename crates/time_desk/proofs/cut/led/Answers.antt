@@ -15,4 +15,4 @@ returns-then-none_looks-clause-heard g c =
     (λ made is. (items, all_heard_themselves items, is)) c.led_unread.ensures.store
 
 pub returns-then-none_looks-clause-reads : goal.returns-then-none_looks-clause-reads
-returns-then-none_looks-clause-reads g c = counts_none _ c.led_unread.result c.led_unread.ensures.never
+returns-then-none_looks-clause-reads g c = counts_none (g.B.Bodies.told c.args.bodies.now) c.led_unread.result c.led_unread.ensures.never

@@ -9,4 +9,4 @@ pub returns-in-Ok-clause-parts : goal.returns-in-Ok-clause-parts
 returns-in-Ok-clause-parts c = λ runs.
     let kept = c.args.desk.now.kept in
     c.in-Ok.ensures.parts (c.store.ensures.value ∙ runs
-    ∙ ap (run kept.base) (sym (take-length kept.timeline) ∙ ap (λ n. take n kept.timeline) (sym c.requires)))
+    ∙ ap (run kept.base) (sym (take-length kept.timeline) ∙ ap (λ n. take n kept.timeline) (sym c.requires.last)))
