@@ -32,6 +32,10 @@ def calls_of(trace, store):
             text = bytes(eval('b' + re.search(r'"(?:[^"\\]|\\.)*"', words)[0]))
             if len(text) < result: sys.exit('strace cut a write')
             calls.append((places[fd], text[:result])); places[fd] += result
+        elif name == 'pwrite64':
+            text = bytes(eval('b' + re.search(r'"(?:[^"\\]|\\.)*"', words)[0]))
+            if len(text) < result: sys.exit('strace cut a write')
+            calls.append((int(words.rpartition(',')[2]), text[:result]))
         elif name in ('fsync', 'fdatasync'): calls.append(None)
         elif name == 'close': del known[fd]
     return calls
@@ -85,7 +89,7 @@ def main(program, script, most='400'):
         subprocess.run([program, 'init', store], input=HOUSE, check=True)
         first = open(store, 'rb').read()
         with open(script, 'rb') as text:
-            done = subprocess.run(['strace', '-f', '-xx', '-s', '100000000', '-e', 'trace=openat,lseek,read,write,fsync,fdatasync,close', '-o', f'{folder}/trace', program, 'script', store],
+            done = subprocess.run(['strace', '-f', '-xx', '-s', '100000000', '-e', 'trace=openat,lseek,read,write,pwrite64,fsync,fdatasync,close', '-o', f'{folder}/trace', program, 'script', store],
                                   stdin=text, stdout=subprocess.DEVNULL)
         if done.returncode: sys.exit(f'the script ended with status {done.returncode}')
         last = open(store, 'rb').read()
