@@ -15,26 +15,6 @@ was answered `+OK Bye.` or its connection closed, and the first not where it was
 import collections, os, re, shutil, subprocess, sys, tempfile
 
 TOP = os.path.dirname(os.path.dirname(os.path.abspath(__file__)))
-SHIM = r'''
-#define _GNU_SOURCE
-#include <dlfcn.h>
-#include <fcntl.h>
-#include <stdlib.h>
-#include <unistd.h>
-static long at = -1, count;
-static int refused(void) {
-    if (at < 0) { char *word = getenv("REFUSE_AT"); at = word ? atol(word) : 0; }
-    count++;
-    if (count != at) return 0;
-    char *told = getenv("REFUSE_TOLD");
-    if (told) { int unused = open(told, O_CREAT | O_WRONLY, 0600); if (unused >= 0) close(unused); }
-    return 1;
-}
-void *malloc(size_t n) { static void *(*real)(size_t); if (!real) real = dlsym(RTLD_NEXT, "malloc"); return refused() ? 0 : real(n); }
-void *realloc(void *p, size_t n) { static void *(*real)(void *, size_t); if (!real) real = dlsym(RTLD_NEXT, "realloc"); return refused() ? 0 : real(p, n); }
-void *aligned_alloc(size_t a, size_t n) { static void *(*real)(size_t, size_t); if (!real) real = dlsym(RTLD_NEXT, "aligned_alloc"); return refused() ? 0 : real(a, n); }
-int posix_memalign(void **p, size_t a, size_t n) { static int (*real)(void **, size_t, size_t); if (!real) real = dlsym(RTLD_NEXT, "posix_memalign"); return refused() ? 12 : real(p, a, n); }
-'''
 LOOKS = ['/status', '/timeline/0', '/conf'] + [f'/box/{user}/{box}' for user in ('ann', 'bob', 'carl') for box in ('INBOX', 'Lost+Found', 'Keep')]
 
 def looks(first): return ''.join(f'open {first + n} http\nline {first + n} GET {path} HTTP/1.1\nline {first + n}\n' for n, path in enumerate(LOOKS))
@@ -54,8 +34,7 @@ def main():
     program = os.path.abspath(sys.argv[1])
     work = tempfile.mkdtemp()
     shim, mark = os.path.join(work, 'refuse.so'), os.path.join(work, 'mark')
-    with open(os.path.join(work, 'refuse.c'), 'w') as out: out.write(SHIM)
-    subprocess.run(['cc', '-shared', '-fPIC', '-w', '-o', shim, os.path.join(work, 'refuse.c'), '-ldl'], check=True)
+    subprocess.run(['cc', '-shared', '-fPIC', '-w', '-o', shim, os.path.join(TOP, 'tests', 'refuse.c'), '-ldl'], check=True)
     base, store = os.path.join(work, 'base'), os.path.join(work, 'store')
 
     def run(words, text, at=0):

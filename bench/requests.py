@@ -24,10 +24,12 @@ def mixed(parts):
 def replaced(numbers, body=b''): return [b'{"body":"%s","item":%d}' % (body, number) for number in numbers]
 def aliases(numbers): return [b'{"act":"alias","local":"x%06d","users":["ann"]}' % number for number in numbers]
 def filters(numbers): return [b'{"act":"filter","file":null,"name":"x%06d","needle":"n"}' % number for number in numbers]
+def gifts(count): return count * [b'{"act":"give","body":"","box":"INBOX","user":"ann"}']
+def removals(numbers): return [b'{"act":"remove","box":"INBOX","index":0,"item":%d,"user":"ann"}' % number for number in numbers]
 def undone(what, by, numbers): return [part for number in numbers for part in (what([number])[0], by % number)]
 
-# A kind: its name, the member of the request, how many octets each part takes with its comma, the parts of so many, and how many deliveries stand in the
-# store for so many parts.
+# A kind: its name, the member of the request, how many octets each part takes with its comma, the parts of so many, how many deliveries stand in the
+# store for so many parts, and the point of the cycle, where it is not 0.
 KINDS = (
     ('replacements of no items, by falling numbers', b'replace', 26, lambda count: replaced(range(999_999, 999_999 - count, -1)), lambda count: 0),
     ('replacements of deliveries, by falling numbers', b'replace', 26, lambda count: replaced(range(FIRST + count - 1, FIRST - 1, -1)), lambda count: count),
@@ -40,11 +42,13 @@ KINDS = (
     ('acts that set filters, by rising names', b'insert', 59, lambda count: filters(range(count)), lambda count: 0),
     ('acts that set filters, mixed', b'insert', 59, lambda count: filters(mixed(range(count))), lambda count: 0),
     ('acts that set and drop filters', b'insert', 48, lambda count: undone(filters, b'{"act":"unfilter","name":"x%06d"}', mixed(range(count // 2))), lambda count: 0),
+    ('acts that give', b'insert', 52, gifts, lambda count: 0),
+    ('acts that remove, mixed', b'insert', 67, lambda count: removals(mixed(range(FIRST, FIRST + count))), lambda count: count, lambda count: FIRST + count - 1),
     ('drops of no items, mixed', b'drop', 8, lambda count: [b'%d' % number for number in mixed(range(1_000_000, 1_000_000 + count))], lambda count: 0),
     ('drops of deliveries, mixed', b'drop', 8, lambda count: [b'%d' % number for number in mixed(range(FIRST, FIRST + count))], lambda count: count),
 )
 
-def request(member, parts): return b'{"key":"k","point":0,"%s":[%s]}' % (member, b','.join(parts))
+def request(member, parts, point): return b'{"key":"k","point":%d,"%s":[%s]}' % (point, member, b','.join(parts))
 
 def answered(port, route, body):
     """The answer to a POST, and the seconds until it is whole."""
@@ -60,12 +64,12 @@ def checked(program, store):
     after = resource.getrusage(resource.RUSAGE_CHILDREN)
     return after.ru_utime + after.ru_stime - before.ru_utime - before.ru_stime
 
-def asked(program, folder, member, parts, deliveries):
+def asked(program, folder, member, parts, deliveries, point):
     """The octets, the seconds until the try and the cycle are answered, and the processor seconds of both and of an opening, without that of the store before."""
     store, ports = os.path.join(folder, 'store'), [free_port() for _ in range(3)]
     subprocess.run([program, 'init', store], input=HOUSE, check=True)
     if deliveries: filled(store, deliveries)
-    first, body = checked(program, store), request(member, parts)
+    first, body = checked(program, store), request(member, parts, point)
     if len(body) > OCTETS: sys.exit(f'{len(body)} octets are too many')
     server = subprocess.Popen([program, 'serve', store, *map(str, ports)], stdin=subprocess.DEVNULL, stdout=subprocess.DEVNULL, stderr=subprocess.DEVNULL)
     try:
@@ -93,12 +97,12 @@ def main():
     program, wanted, slow = os.path.abspath(words[0]), words[1:], []
     print(f'{"":48} {"parts":>7} {"octets":>8} {"try":>7} {"cycle":>7} {"of try":>12} {"of cycle":>12} {"of opening":>12}')
     with tempfile.TemporaryDirectory(dir=where) as folder:
-        for kind, member, size, parts, deliveries in KINDS:
+        for kind, member, size, parts, deliveries, *at in KINDS:
             if wanted and not any(word in kind for word in wanted): continue
             before = 0, 0, 0
             for part in (4, 2, 1):
                 count = (OCTETS - 40) // size // part // 2 * 2
-                octets, of_try, of_cycle, spent = asked(program, folder, member, parts(count), deliveries(count))
+                octets, of_try, of_cycle, spent = asked(program, folder, member, parts(count), deliveries(count), at[0](count) if at else 0)
                 rows = ' '.join(times(now, was) for now, was in zip(spent, before))
                 print(f'{kind:48} {count:7} {octets:8} {of_try:7.2f} {of_cycle:7.2f} {rows}', flush=True)
                 before = spent
