@@ -1,0 +1,12 @@
+pub mod Fits
+pub mod Lists
+pub mod NamesMade
+pub mod Ranged
+pub mod Deeds
+pub mod Rows
+pub mod Fields
+pub mod Shows
+pub mod Reporting
+pub mod Staying
+pub mod Sized
+pub mod Again
