@@ -85,8 +85,7 @@ each_again kept h = each_item kept.house kept.timeline h.sound.house h.sound.tim
 each_below : (next : ℕ) (rows : List (BoxId × Mailbox)) → list_all (is_entry_below next) (entries_of rows) ≡ true → AllByRecursion (λ (r : BoxId × Mailbox). list_all (is_entry_below next) r.1.entries ≡ true) rows
 each_below next [] e = tt
 each_below next (r ∷ rows) e =
-    let both = sym (list_all-append (is_entry_below next) r.1.entries (entries_of rows)) ∙ e in
-    (
+    let both = sym (list_all-append (is_entry_below next) r.1.entries (entries_of rows)) ∙ e in (
       first_so (list_all (is_entry_below next) r.1.entries) (list_all (is_entry_below next) (entries_of rows)) both,
       each_below next rows (second_so (list_all (is_entry_below next) r.1.entries) (list_all (is_entry_below next) (entries_of rows)) both),
     )
@@ -141,8 +140,7 @@ each_stamp : (house : House) (is : is_house house ≡ true) (next : ℕ) → nex
 each_stamp house is next few [] named fresh e = tt
 each_stamp house is next few (r ∷ stamps) named fresh e =
     let less : r.1 < next = fresh.0 in
-    let first = first_so (nat_lt r.1 next && is_known house r.0.user) (list_all (λ (q : BoxId × ℕ). nat_lt q.1 next && is_known house q.0.user) stamps) e in
-    (
+    let first = first_so (nat_lt r.1 next && is_known house r.0.user) (list_all (λ (q : BoxId × ℕ). nat_lt q.1 next && is_known house q.0.user) stamps) e in (
       ((named.0, omega (arith, less, few)), second_so (nat_lt r.1 next) (is_known house r.0.user) first),
       each_stamp house is next few stamps named.1 fresh.1 (second_so (nat_lt r.1 next && is_known house r.0.user) (list_all (λ (q : BoxId × ℕ). nat_lt q.1 next && is_known house q.0.user) stamps) e),
     )

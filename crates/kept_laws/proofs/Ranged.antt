@@ -97,8 +97,7 @@ entry_ranged : (e : Entry) → are_in_range (entry_fields e) ≡ true → FitsEn
 entry_ranged e h =
     let last = flags_field e.flags & moment_field e.at in
     let from_key = others_in_range (u64_field e.uid) (key_field e.key & u32_field e.body.origin & u32_field e.body.rev & last) h in
-    let from_rev = others_in_range (u32_field e.body.origin) (u32_field e.body.rev & last) (others_in_range (key_field e.key) (u32_field e.body.origin & u32_field e.body.rev & last) from_key) in
-    (
+    let from_rev = others_in_range (u32_field e.body.origin) (u32_field e.body.rev & last) (others_in_range (key_field e.key) (u32_field e.body.origin & u32_field e.body.rev & last) from_key) in (
       key_ranged e.key (first_in_range (key_field e.key) (u32_field e.body.origin & u32_field e.body.rev & last) from_key),
       four_ranged e.body.rev (first_in_range (u32_field e.body.rev) last from_rev),
       number_in_range w64 LAST_MOMENT e.at (others_in_range (flags_field e.flags) (moment_field e.at) (others_in_range (u32_field e.body.rev) last from_rev)),
@@ -130,8 +129,7 @@ stamp_ranged r e =
 broken_ranged : (b : BrokenItem) → are_in_range (broken_fields b) ≡ true → FitsBroken b
 broken_ranged b e =
     let last = option_fields name_field b.mailbox & reason_field b.reason in
-    let from_verb = others_in_range (user_field b.user) (verb_field b.verb & last) (others_in_range (u32_field b.number) (user_field b.user & verb_field b.verb & last) e) in
-    (
+    let from_verb = others_in_range (user_field b.user) (verb_field b.verb & last) (others_in_range (u32_field b.number) (user_field b.user & verb_field b.verb & last) e) in (
       four_ranged b.number (first_in_range (u32_field b.number) (user_field b.user & verb_field b.verb & last) e),
       option_ranged name_field IsName name_ranged b.mailbox (first_in_range (option_fields name_field b.mailbox) (reason_field b.reason) (others_in_range (verb_field b.verb) last from_verb)),
     )
