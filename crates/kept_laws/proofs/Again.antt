@@ -1,7 +1,7 @@
 -- The items and the base that records leave, recorded again.
-use Rattle.std.proofs.Common.{◌≡◌, ℕ, ◌+◌, ◌<◌, ◌≤◌, ◌^◌, ◌&&◌, Bool, true, false, List, [], ◌∷◌, ◌++◌, length, map, take, drop, nat_le, nat_lt, Some, None, refl, sym, ap, subst, ◌∙◌, arith}
+use Rattle.std.proofs.Common.{◌≡◌, ℕ, ◌+◌, ◌<◌, ◌≤◌, ◌&&◌, Bool, true, List, [], ◌∷◌, ◌++◌, length, map, take, drop, nat_le, nat_lt, refl, sym, subst, ◌∙◌, arith}
 use Rattle.std.specs.Cmp.{first_so, second_so}
-use Rattle.std.specs.List.{AllByRecursion, flat_map, list_all}
+use Rattle.std.specs.List.{AllByRecursion, list_all}
 use Rattle.std.proofs.lemmas.Bool.{leb-true}
 use Rattle.std.proofs.lemmas.List.Folds.{list_all-append}
 use Rattle.undo_base.specs.Name.{IsName}
@@ -11,17 +11,15 @@ use Rattle.verb_core.specs.declared.conf.House.{House}
 use Rattle.verb_core.specs.declared.item.Item.{Item}
 use Rattle.verb_core.specs.declared.mailbox.Body.{Body}
 use Rattle.verb_core.specs.declared.mailbox.BoxId.{BoxId}
-use Rattle.verb_core.specs.declared.mailbox.Entry.{Entry}
 use Rattle.verb_core.specs.declared.mailbox.Mailbox.{Mailbox}
 use Rattle.verb_core.specs.Boxes.{has_superiors, is_rising}
 use Rattle.verb_core.specs.Items.{IsWellFormed}
 use Rattle.verb_core.specs.Store.{IsValid, MailStore, is_house, is_known, is_row}
 use Rattle.paradox.specs.declared.reports.Report.{Report}
-use Rattle.verb_bytes.specs.declared.journal.JournalRecord.{JournalRecord}
 use Rattle.verb_bytes.specs.declared.journal.JournalRecord.TheVariants.{Base as BaseRecord, Text as TextRecord, Kept as KeptRecord}
-use Rattle.verb_bytes.specs.Fields.{Field, ◌&◌, actor_field, any_list_fields, are_in_range, bool_field, bytes_of, moment_field, most_of_four, record_kind, u32_field}
+use Rattle.verb_bytes.specs.Fields.{Field, ◌&◌, actor_field, any_list_fields, bool_field, bytes_of, moment_field, most_of_four, record_kind, u32_field}
 use Rattle.verb_bytes.specs.Places.{size_of}
-use Rattle.verb_bytes.specs.Spelling.{HasSpelling, aliases_fields, base_fields, kept_deed_fields, kept_fields, keyed_report_fields, record_bytes, record_fields, row_fields, scoped_fields, shown_fields_within, shown_kind, stamp_fields}
+use Rattle.verb_bytes.specs.Spelling.{HasSpelling, aliases_fields, base_fields, kept_deed_fields, kept_fields, keyed_report_fields, record_fields, row_fields, scoped_fields, shown_fields_within, shown_kind, stamp_fields}
 use Rattle.verb_bytes.proofs.Ranges.{record_kind_fits}
 use Rattle.verb_bytes.proofs.Sizes.{size_both}
 use Rattle.seal_log.specs.Journal.{IsPayload}
@@ -32,18 +30,18 @@ use Rattle.store_kept.proofs.Known.{MailIsKept}
 use Rattle.cycle_rules.specs.Cutting.{base_at, cut}
 use Rattle.mail_desk.specs.Counting.{bare_item}
 use Rattle.desk_journal.specs.Founding.{cut_records}
-use Rattle.desk_journal.specs.Permanence.{IsSound, RevsBelow}
+use Rattle.desk_journal.specs.Permanence.{RevsBelow}
 use Rattle.desk_journal.specs.Records.{payloads_of}
 use Rattle.time_desk.specs.Cutting.{base_record}
 use Rattle.cut_laws.specs.Cuts.{CanBeCut, CanBeWritten}
 use Rattle.cut_laws.proofs.Cut.{cut_founded}
 use Rattle.kept_laws.specs.Again.{CanBeKeptAgain, HasFrame, UidsFit}
 use Rattle.kept_laws.proofs.Fields.{again_spelled}
-use Rattle.kept_laws.proofs.Fits.{AreRows, Fits, FitsAlias, FitsKeyed, FitsRow, FitsStamp, FitsStore}
+use Rattle.kept_laws.proofs.Fits.{AreRows, Fits, FitsAlias, FitsKeyed, FitsStamp, FitsStore}
 use Rattle.kept_laws.proofs.Lists.{all_dropped, all_taken}
 use Rattle.kept_laws.proofs.Ranged.{base_ranged}
 use Rattle.kept_laws.proofs.Rows.{run_fits}
-use Rattle.kept_laws.proofs.Sized.{AliasWell, Fitting, Known, RowWell, ToldWell, all_tested, bool_fits, fit_aliases, fit_both, fit_filters, fit_reports, fit_rows, fit_shown, fit_stamps, four_fits, zipped}
+use Rattle.kept_laws.proofs.Sized.{Known, RowWell, all_tested, bool_fits, fit_aliases, fit_both, fit_filters, fit_reports, fit_rows, fit_shown, fit_stamps, four_fits, zipped}
 use Rattle.kept_laws.proofs.Staying.{AllHold}
 
 size_is : (fields : List Field) → size_of fields ≡ length (bytes_of fields)

@@ -1,10 +1,8 @@
 -- What a deed has whose Kept without its text has a spelling.
-use Rattle.std.proofs.Common.{◌≡◌, ℕ, ◌≤◌, Bool, true, false, cond, List, [], ◌∷◌, ◌++◌, length, Option, Some, None, arith}
-use Rattle.std.specs.Prelude.{IfSome, if◌then◌else◌}
+use Rattle.std.proofs.Common.{◌≡◌, ℕ, true, List, [], ◌++◌, arith}
+use Rattle.std.specs.Prelude.{if◌then◌else◌}
 use Rattle.std.specs.Int.{w64}
-use Rattle.std.specs.List.{AllByRecursion}
-use Rattle.undo_base.specs.declared.keys.Key.{Key}
-use Rattle.undo_base.specs.declared.limits.TheConstants.{LAST_MOMENT, MOST_RECIPIENTS}
+use Rattle.undo_base.specs.declared.limits.TheConstants.{LAST_MOMENT}
 use Rattle.undo_base.specs.Name.{IsName}
 use Rattle.verb_core.specs.declared.conf.Filter.{Filter}
 use Rattle.verb_core.specs.declared.conf.Scope.{Scope}
@@ -15,8 +13,7 @@ use Rattle.verb_core.specs.declared.item.Deed.{Deed}
 use Rattle.verb_core.specs.declared.item.Deed.TheVariants.{Deliver, Append, Fetch, Store, Copy, List as Names, Status, Select, Expunge, Close, Create, Rename, Delete, Act as Acts, Notice}
 use Rattle.verb_core.specs.Filters.{is_of_body}
 use Rattle.verb_bytes.specs.Fields.{Field, ◌&◌, act_kind, any_list_fields, any_text_field, are_in_range, bool_field, byte_field, deed_kind_to, field_name_field, flags_field, moment_field, name_field, user_field, key_field}
-use Rattle.verb_bytes.specs.Limits.{IsKey}
-use Rattle.verb_bytes.specs.Spelling.{act_fields_within, filter_fields, how_field, key_list, scope_fields, scoped_fields}
+use Rattle.verb_bytes.specs.Spelling.{act_fields_within, filter_fields, how_field, key_list, scope_fields}
 use Rattle.verb_bytes.proofs.Exact.{in_range_both}
 use Rattle.verb_bytes.proofs.Puts.{first_in_range, number_in_range, others_in_range}
 use Rattle.verb_bytes.proofs.Ranges.{byte_fits}

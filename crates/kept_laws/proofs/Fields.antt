@@ -1,9 +1,8 @@
 -- The fields of an item's record, and those of its Kept without a text.
-use Rattle.std.proofs.Common.{◌≡◌, ◌==◌, ℕ, ◌+◌, ◌<◌, ◌≤◌, ◌&&◌, Bool, true, false, List, [], ◌∷◌, ◌++◌, length, nat_le, nat_lt, Option, Some, None, refl, sym, ap, subst, ◌∙◌, arith}
-use Rattle.std.specs.Prelude.{IsTrue, if◌then◌else◌}
+use Rattle.std.proofs.Common.{◌≡◌, ◌==◌, ℕ, ◌+◌, ◌<◌, ◌≤◌, ◌&&◌, true, List, [], ◌++◌, length, nat_le, Option, Some, None, refl, sym, subst, arith}
 use Rattle.std.specs.Cmp.{first_so, second_so}
 use Rattle.std.specs.Int.{w32, w64}
-use Rattle.std.specs.List.{AllByRecursion, cons_option, flat_map, list_all}
+use Rattle.std.specs.List.{AllByRecursion, cons_option, list_all}
 use Rattle.std.proofs.lemmas.Bool.{leb-true, ltb-true}
 use Rattle.undo_base.specs.declared.keys.User.{User}
 use Rattle.undo_base.specs.declared.limits.TheConstants.{LAST_MOMENT, MOST_KEYS, MOST_RECIPIENTS}
@@ -14,8 +13,6 @@ use Rattle.verb_core.specs.declared.item.Act.TheVariants.{SetAlias, DropAlias, S
 use Rattle.verb_core.specs.declared.item.Deed.{Deed}
 use Rattle.verb_core.specs.declared.item.Deed.TheVariants.{Deliver, Append, Fetch, Store, Copy, List as Names, Status, Select, Expunge, Close, Create, Rename, Delete, Act as Acts, Notice}
 use Rattle.verb_core.specs.declared.item.Item.{Item}
-use Rattle.verb_core.specs.declared.item.Shown.{Shown}
-use Rattle.verb_core.specs.declared.item.Shown.TheVariants.{Nothing, Seen, Names as Named, Count, Done, Copied, Put, Left, Way as Went, Moved}
 use Rattle.verb_core.specs.Deeds.{act_item, with_text}
 use Rattle.verb_core.specs.Items.{IsWellFormed, users_in}
 use Rattle.verb_core.specs.Store.{is_house, is_known}
@@ -23,7 +20,7 @@ use Rattle.verb_bytes.specs.declared.journal.CycleAsk.{CycleAsk}
 use Rattle.verb_bytes.specs.declared.journal.JournalRecord.TheVariants.{Verb, Operator, Cycle, Withdraw, Kept as KeptRecord}
 use Rattle.verb_bytes.specs.declared.write.TheConstants.{MOST_BODY}
 use Rattle.verb_bytes.specs.declared.kinds.TheConstants.{LAST_DEED, LAST_KEPT_DEED}
-use Rattle.verb_bytes.specs.Fields.{Field, ◌&◌, act_kind, actor_field, any_list_fields, any_text_field, are_in_range, body_field, deed_kind_to, flags_field, list_fields, moment_field, most_of_four, name_field, number_field, only_if, record_kind, text_field, u32_field, user_field}
+use Rattle.verb_bytes.specs.Fields.{Field, ◌&◌, act_kind, actor_field, any_list_fields, any_text_field, are_in_range, body_field, deed_kind_to, flags_field, list_fields, moment_field, most_of_four, name_field, only_if, record_kind, text_field, u32_field, user_field}
 use Rattle.verb_bytes.specs.Spelling.{HasSpelling, act_fields, act_fields_within, ask_fields, deed_fields, deed_fields_within, item_fields, kept_deed_fields, kept_fields, replace_fields, shown_fields, shown_fields_within, shown_kind}
 use Rattle.verb_bytes.proofs.Exact.{in_range_both}
 use Rattle.verb_bytes.proofs.Forms.{cycle_moment, deed_ranged, no_rev, withdraw_moment}

@@ -1,13 +1,12 @@
 -- The names under which items put mailboxes: superiors and moved names are names.
-use Rattle.std.proofs.Common.{◌≡◌, ℕ, zero, suc, ◌+◌, ◌<◌, ◌≤◌, Bool, true, false, not, ◌&&◌, ◌||◌, cond, List, [], ◌∷◌, ◌++◌, map, filter, drop, length, Option, Some, None, is_some, refl, sym, ap, ◌∙◌, subst, arith, true≢false, bytes_eq, lt-ltb, length-append, append-nil}
+use Rattle.std.proofs.Common.{◌≡◌, ℕ, zero, suc, ◌+◌, ◌<◌, ◌≤◌, Bool, true, false, not, ◌&&◌, ◌||◌, cond, List, [], ◌∷◌, ◌++◌, drop, length, Option, Some, None, is_some, refl, sym, ap, ◌∙◌, subst, arith, true≢false, bytes_eq, lt-ltb, length-append, append-nil}
 use Rattle.std.specs.List.{AllByRecursion, list_all, list_any, position_or_len}
 use Rattle.std.specs.Cmp.{first_so, second_so}
 use Rattle.std.specs.Cmp.Lexicographic.{bytes_decides}
-use Rattle.std.proofs.lemmas.List.{length-map}
 use Rattle.std.proofs.lemmas.List.Folds.{list_all-append}
 use Rattle.undo_base.specs.Name.{IsName, is_printable}
 use Rattle.undo_base.proofs.Names.{no_bad_byte}
-use Rattle.verb_core.specs.Names.{is_empty, is_inferior, is_slash, before_slashes, superiors, with_superiors, moved_name}
+use Rattle.verb_core.specs.Names.{is_empty, is_inferior, superiors, with_superiors, moved_name}
 use Rattle.verb_core.proofs.BoxLaws.{bytes_eq-refl}
 use Rattle.verb_core.proofs.NameLaws.{below_parts, no_superior_is_empty, shorter}
 use Rattle.kept_laws.proofs.Lists.{all_joined}

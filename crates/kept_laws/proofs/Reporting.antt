@@ -1,6 +1,6 @@
 -- What cycles and withdrawals report is in the ranges of records, but for the lengths of lists.
-use Rattle.std.proofs.Common.{◌≡◌, ℕ, ◌+◌, ◌<◌, ◌≤◌, ◌==◌, Bool, true, false, cond, not, List, [], ◌∷◌, ◌++◌, drop, filter, length, map, Option, Some, None, Less, Equal, Greater, refl, sym, subst, arith, eqb-true}
-use Rattle.std.specs.Prelude.{IfSome, option_and_then, option_map}
+use Rattle.std.proofs.Common.{◌≡◌, ℕ, ◌+◌, ◌≤◌, ◌==◌, Bool, true, false, cond, not, List, [], ◌∷◌, drop, length, map, Option, Some, None, Less, Equal, Greater, refl, arith, eqb-true}
+use Rattle.std.specs.Prelude.{option_and_then, option_map}
 use Rattle.std.specs.FinMap.Entries as rows
 use Rattle.std.specs.List.{AllByRecursion, cons_option}
 use Rattle.undo_base.specs.declared.keys.User.{User}
@@ -21,10 +21,10 @@ use Rattle.store_kept.specs.Kept.{Kept, Reports, key_cmp, store_of, with_report}
 use Rattle.repair_desk.specs.Renewals.{renewed, stamp_after}
 use Rattle.repair_desk.specs.Repairs.{dropped, is_among, missing, numbers_of, replaced, unmatched}
 use Rattle.cycle_rules.specs.Judging.{judged, reason_by, told}
-use Rattle.cycle_rules.specs.Repairing.{Repair, broken_in, compared_in, led_in, notice_items, renewed_by, report_in, stamps_in, told_in}
-use Rattle.kept_laws.proofs.Fits.{AreRows, Fits, FitsBroken, FitsDeed, FitsKeyed, FitsReport, FitsRow, FitsStamp, IsFour}
+use Rattle.cycle_rules.specs.Repairing.{Repair, compared_in, led_in, notice_items, renewed_by, report_in, stamps_in, told_in}
+use Rattle.kept_laws.proofs.Fits.{AreRows, Fits, FitsBroken, FitsKeyed, FitsReport, FitsRow, FitsStamp, IsFour}
 use Rattle.kept_laws.proofs.Deeds.{deed_fits}
-use Rattle.kept_laws.proofs.Lists.{all_filtered, all_joined, all_mapped, option_added}
+use Rattle.kept_laws.proofs.Lists.{all_filtered, all_joined, all_mapped}
 
 -- ---- the items that are told of
 

@@ -1,5 +1,5 @@
 -- A step keeps a store in the ranges of records, but for the lengths of lists.
-use Rattle.std.proofs.Common.{◌≡◌, ℕ, suc, ◌+◌, ◌<◌, ◌≤◌, Bool, true, false, not, cond, ◌&&◌, ◌||◌, List, [], ◌∷◌, ◌++◌, length, map, filter, Option, None, Some, option_map, unwrap_or, Less, Equal, Greater, refl, sym, subst, ap, arith, true≢false, bytes_eq, nat_lt, ◌∙◌}
+use Rattle.std.proofs.Common.{◌≡◌, ℕ, ◌+◌, ◌<◌, ◌≤◌, Bool, true, false, not, cond, ◌&&◌, ◌||◌, List, [], ◌∷◌, length, map, filter, Option, None, Some, option_map, unwrap_or, Less, Equal, Greater, refl, sym, subst, arith, true≢false, bytes_eq, nat_lt, ◌∙◌}
 use Rattle.std.specs.Prelude.{IfSome}
 use Rattle.std.specs.Cmp.{first_so, second_so}
 use Rattle.std.specs.Cmp.Lexicographic.{bytes_decides, slice_cmp}
@@ -23,7 +23,6 @@ use Rattle.verb_core.specs.declared.item.Aim.{Aim}
 use Rattle.verb_core.specs.declared.item.Deed.{Deed}
 use Rattle.verb_core.specs.declared.item.Deed.TheVariants.{Deliver, Append, Fetch, Store, Copy, List as Names, Status, Select, Expunge, Close, Create, Rename, Delete, Act as Acts, Notice}
 use Rattle.verb_core.specs.declared.item.Item.{Item}
-use Rattle.verb_core.specs.declared.item.Way.{Way}
 use Rattle.verb_core.specs.declared.item.Way.TheVariants.{Plain, NoSource, Merged}
 use Rattle.verb_core.specs.declared.mailbox.BoxId.{BoxId}
 use Rattle.verb_core.specs.declared.mailbox.Entry.{Entry}
@@ -31,15 +30,15 @@ use Rattle.verb_core.specs.declared.mailbox.Mailbox.{Mailbox}
 use Rattle.verb_core.specs.Aims.{Sought, and_postmaster, box_aimed, delivered, into_or, sought, sought_by}
 use Rattle.verb_core.specs.Boxes.{add_row, add_rows, box_cmp, box_of, change_row, drop_row, has_inferior, has_row, is_at_or_below, mail_at, names_of, row_at, rows_of, same_user}
 use Rattle.verb_core.specs.Items.{actor, keys_in, text_in}
-use Rattle.verb_core.specs.Mailboxes.{changed, copies, emptied, entry_of, expunged, is_among, no_flags, no_mail, put, put_all, reflagged, same_key, with_entries, without}
+use Rattle.verb_core.specs.Mailboxes.{changed, copies, emptied, entry_of, expunged, is_among, no_flags, no_mail, put, put_all, reflagged, same_key, without}
 use Rattle.verb_core.specs.Names.{inbox, is_fixed, is_inferior, lost_found, moved_name, superiors, with_superiors}
 use Rattle.verb_core.specs.Filters.{deciding}
 use Rattle.verb_core.specs.Recipients.{recipients, some_unknown}
-use Rattle.verb_core.specs.Step.{Boxes, after_rename, all_created, conf_after, created, created_below, deleted, in_order, inbox_renamed, is_in_vain, is_overlong, left, message, moved, new_mail, put_at, rearranged, run, saved, step, way_of, with_alias, with_filter}
+use Rattle.verb_core.specs.Step.{Boxes, after_rename, all_created, conf_after, created, deleted, in_order, inbox_renamed, is_in_vain, is_overlong, left, message, moved, new_mail, put_at, rearranged, run, saved, step, way_of, with_alias, with_filter}
 use Rattle.verb_core.specs.Store.{MailStore, opening, users_of}
 use Rattle.verb_core.proofs.Moves.{not_below, not_in_vain}
 use Rattle.verb_core.proofs.NameLaws.{through}
-use Rattle.kept_laws.proofs.Fits.{AreEntries, AreRows, Fits, FitsAlias, FitsChange, FitsConf, FitsDeed, FitsEntry, FitsFilter, FitsMoment, FitsRow, FitsStore, names_made}
+use Rattle.kept_laws.proofs.Fits.{AreEntries, AreRows, Fits, FitsAlias, FitsChange, FitsConf, FitsEntry, FitsFilter, FitsMoment, FitsRow, FitsStore, names_made}
 use Rattle.kept_laws.proofs.Deeds.{deed_fits}
 use Rattle.kept_laws.proofs.Lists.{all_chosen, all_filtered, all_joined, all_mapped, either, found_has, some_mapped}
 use Rattle.kept_laws.proofs.NamesMade.{each_among, moved_named, source_moved, superiors_named, with_superiors_named}

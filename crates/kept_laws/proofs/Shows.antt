@@ -1,5 +1,5 @@
 -- What items show when they are performed once more is in the ranges of records, but for the lengths of lists.
-use Rattle.std.proofs.Common.{◌≡◌, ℕ, zero, suc, ◌<◌, ◌≤◌, Bool, true, false, cond, not, List, [], ◌∷◌, ◌++◌, drop, filter, map, nat_lt, Option, Some, None, is_some, option_map, refl, sym, subst, arith, ltb-true}
+use Rattle.std.proofs.Common.{◌≡◌, ℕ, zero, suc, ◌<◌, ◌≤◌, Bool, true, false, cond, not, List, [], ◌∷◌, drop, Option, Some, None, is_some, option_map, refl, arith, ltb-true}
 use Rattle.std.specs.Prelude.{IfSome}
 use Rattle.std.specs.List.{AllByRecursion, list_any}
 use Rattle.undo_base.specs.declared.keys.Key.{Key}
@@ -17,10 +17,10 @@ use Rattle.verb_core.specs.declared.mailbox.Mailbox.{Mailbox}
 use Rattle.verb_core.specs.Aims.{sought_by}
 use Rattle.verb_core.specs.Boxes.{box_of, mail_at, names_of, rows_of, same_user}
 use Rattle.verb_core.specs.Items.{actor, keys_in}
-use Rattle.verb_core.specs.Mailboxes.{entry_of, expunged, keys_of, same_key, sights, there}
+use Rattle.verb_core.specs.Mailboxes.{entry_of, expunged, same_key, sights, there}
 use Rattle.verb_core.specs.Names.{is_empty}
 use Rattle.verb_core.specs.Patterns.{is_listed}
-use Rattle.verb_core.specs.Step.{Boxes, answers, run, saved, shown, step}
+use Rattle.verb_core.specs.Step.{Boxes, answers, saved, shown, step}
 use Rattle.verb_core.specs.Store.{MailStore}
 use Rattle.verb_bytes.specs.Limits.{IsKey, IsSight}
 use Rattle.paradox.specs.Answers.{amiss, broken, is_fewer, looks_at_texts}

@@ -1,5 +1,5 @@
 -- What a journal's records leave stands in the ranges of records, but for UIDs and the lengths of lists.
-use Rattle.std.proofs.Common.{◌≡◌, ℕ, ◌+◌, ◌-◌, ◌≤◌, ◌==◌, ◌&&◌, not, Bool, true, false, cond, List, [], ◌∷◌, ◌++◌, length, map, take, drop, Option, None, Some, is_none, refl, sym, ap, ◌∙◌, subst, arith, leb-true, length-append}
+use Rattle.std.proofs.Common.{◌≡◌, ℕ, ◌+◌, ◌-◌, ◌≤◌, ◌==◌, ◌&&◌, not, Bool, true, false, cond, List, [], ◌∷◌, ◌++◌, length, map, take, drop, Option, None, Some, is_none, refl, sym, subst, arith, leb-true, length-append}
 use Rattle.std.proofs.lemmas.Bool.{and_parts}
 use Rattle.std.proofs.lemmas.List.{length-drop, length-map}
 use Rattle.std.specs.Prelude.{IfSome, option_map}
@@ -15,7 +15,6 @@ use Rattle.verb_core.specs.declared.mailbox.Body.{Body}
 use Rattle.verb_core.specs.declared.mailbox.Mailbox.{Mailbox}
 use Rattle.verb_core.specs.declared.item.Act.{Act}
 use Rattle.verb_core.specs.declared.item.Item.{Item}
-use Rattle.verb_core.specs.declared.item.Shown.{Shown}
 use Rattle.verb_core.specs.Deeds.{act_item, with_text}
 use Rattle.verb_core.specs.Step.{answers}
 use Rattle.verb_bytes.specs.declared.journal.CycleAsk.{CycleAsk}
@@ -23,13 +22,13 @@ use Rattle.verb_bytes.specs.declared.journal.JournalRecord.{JournalRecord}
 use Rattle.verb_bytes.specs.declared.journal.JournalRecord.TheVariants.{Format, Verb, Operator, Cycle, Snapshot, Upgrade, Withdraw, Base as BaseRecord, Text as TextRecord, Kept as KeptRecord}
 use Rattle.withdraw.specs.declared.undone.UndoneBehind.{UndoneBehind}
 use Rattle.withdraw.specs.Unediting.{as_shown, item_of, showing}
-use Rattle.store_kept.specs.Founding.{Based, base_of, base_stands, based_on, founded, is_whole, text_stands, with_item, with_text as with_text_of}
+use Rattle.store_kept.specs.Founding.{Based, base_stands, based_on, founded, is_whole, text_stands, with_item, with_text as with_text_of}
 use Rattle.store_kept.specs.Kept.{Kept, Reports, new_desk, passed, performed, report_of, snapshotted, undone_as, undone_of, upgraded}
 use Rattle.paradox.specs.Letters.{notices}
 use Rattle.paradox.specs.declared.reports.Report.{Report}
 use Rattle.mail_cycle.proofs.Cycled.{few_notices, length_shown}
 use Rattle.mail_desk.proofs.Timelines.{few}
-use Rattle.repair_desk.specs.Repairs.{inserted, is_dropped, kept, new_timeline, numbers_of, position, repaired, replaced_by, takes_text, text_asked}
+use Rattle.repair_desk.specs.Repairs.{inserted, is_dropped, kept, new_timeline, position, repaired, replaced_by, takes_text, text_asked}
 use Rattle.cycle_rules.specs.Asking.{NoNumbers, Rewinds, after_cycle, after_repair, cycle_due, due_anew, due_at, due_by, undone_at}
 use Rattle.cycle_rules.specs.Cycles.{cycled_at, leaves_numbers, repair_of}
 use Rattle.cycle_rules.specs.Repairing.{Repair, broken_in, compared_in, front_in, kept_in, leaves_numbers_for, notice_items, report_in, reworked, timeline_in, told_in}
@@ -38,7 +37,7 @@ use Rattle.desk_journal.specs.Founding.{Fore, after_kept_item, after_text, based
 use Rattle.desk_journal.specs.Permanence.{IsSound}
 use Rattle.desk_journal.specs.Records.{after_due, after_kept, after_record, after_records, behind, can_follow, can_keep, can_rewind, first_fore, front, is_spelled, is_true, opening_state, settled, state}
 use Rattle.house_text.specs.Beginning.{can_begin}
-use Rattle.kept_laws.proofs.Fits.{AreRows, Fits, FitsAnswer, FitsConf, FitsKeyed, FitsReport, FitsStore, IsAgain, IsFour}
+use Rattle.kept_laws.proofs.Fits.{AreRows, Fits, FitsAnswer, FitsConf, FitsKeyed, FitsReport, FitsStore, IsFour}
 use Rattle.kept_laws.proofs.Fields.{CycleFits, cycle_fits, kept_fits, operator_fits, retold_again, verb_fits, withdraw_key, withdraw_at}
 use Rattle.kept_laws.proofs.Lists.{all_dropped, all_filtered, all_joined, all_mapped, all_taken, either, found_has}
 use Rattle.kept_laws.proofs.Ranged.{base_ranged, format_ranged}
