@@ -50,22 +50,22 @@ size_is fields = refl
 
 -- ---- items
 
+size_behind : (x y : List Field) (n : ℕ) → n ≤ size_of y → n ≤ size_of (x ++ y)
+size_behind x y n le = omega (arith, le, size_both x y)
+
 -- what an item shows takes fewer bytes than its Kept
 shown_small : (i : Item) → HasFrame (KeptRecord i) → size_of (shown_fields_within most_of_four (shown_kind i.deed) i.shown) < 4294967296
 shown_small i framed =
     let shown = shown_fields_within most_of_four (shown_kind i.deed) i.shown in
     let deed = kept_deed_fields i.deed in
-    omega (
-      arith,
-      framed,
-      size_is (record_fields (KeptRecord i)),
-      size_both (record_kind 10) (kept_fields i),
-      size_both (u32_field i.number) (moment_field i.at & actor_field i.by & u32_field i.rev & deed & shown),
-      size_both (moment_field i.at) (actor_field i.by & u32_field i.rev & deed & shown),
-      size_both (actor_field i.by) (u32_field i.rev & deed & shown),
-      size_both (u32_field i.rev) (deed & shown),
-      size_both deed shown,
-    )
+    let fields = record_fields (KeptRecord i) in
+    let room : size_of shown ≤ size_of fields =
+    size_behind (record_kind 10) (kept_fields i) (size_of shown)
+    (size_behind (u32_field i.number) (moment_field i.at & actor_field i.by & u32_field i.rev & deed & shown) (size_of shown)
+    (size_behind (moment_field i.at) (actor_field i.by & u32_field i.rev & deed & shown) (size_of shown)
+    (size_behind (actor_field i.by) (u32_field i.rev & deed & shown) (size_of shown)
+    (size_behind (u32_field i.rev) (deed & shown) (size_of shown) (size_behind deed shown (size_of shown) (omega arith)))))) in
+    omega (arith, room, size_is fields, framed)
 
 item_again : (house : House) (i : Item) → is_house house ≡ true → IsWellFormed house i → Fits i → HasFrame (KeptRecord i) → CanBeKeptAgain i
 item_again house i is formed fits framed = again_spelled house i is formed fits (fit_shown i.deed i.shown formed.form fits.shows (shown_small i framed))
@@ -158,6 +158,8 @@ base_fits house is next deep base stamps reports fits uids told named fresh part
     let rows = each_row house is next few base.boxes fits.rows (all_tested (is_row house) base.boxes parts.rows_are) (each_below next base.boxes parts.below) uids in
     let users = zipped FitsAlias (λ (a : Alias). list_all (is_known house) a.users ≡ true) conf.aliases fits.conf.aliases (all_tested (λ (a : Alias). list_all (is_known house) a.users) conf.aliases parts.aliases) in
     let tells = zipped FitsKeyed (λ (r : List ℕ × Report). list_all (is_known house) (users_told r.1) ≡ true) reports told (all_tested (λ (r : List ℕ × Report). list_all (is_known house) (users_told r.1)) reports parts.told) in
+    let fields = record_fields (BaseRecord next deep conf base.boxes stamps reports) in
+    let within : size_of fields < 4294967296 = omega (arith, framed, size_is fields) in
     fit_both (record_kind 8) (base_fields next deep conf base.boxes stamps reports) (λ small. record_kind_fits 8 (omega arith))
     (fit_both (u32_field next) (bool_field deep & aliases) (λ small. four_fits next few)
     (fit_both (bool_field deep) aliases (λ small. bool_fits deep)
@@ -165,7 +167,7 @@ base_fits house is next deep base stamps reports fits uids told named fresh part
     (fit_both (any_list_fields (scoped_fields 0) conf.filters) mailboxes (fit_filters house is conf.filters fits.conf.filters)
     (fit_both (any_list_fields row_fields base.boxes) stamped (fit_rows house is next few base.boxes rows)
     (fit_both (any_list_fields stamp_fields stamps) reported (fit_stamps house is stamps (each_stamp house is next few stamps named fresh parts.stamped)) (fit_reports house is reports tells)))))))
-    (omega (arith, framed, size_is (record_fields (BaseRecord next deep conf base.boxes stamps reports))))
+    within
 
 -- of what records leave, cut at a place
 pub base_again : MailIsKept → ((house : House) (conf : Conf) (boxes : List (BoxId × Mailbox)) → IsValid (store_of_rows house conf boxes) → makes_store house conf boxes ≡ true) → (kept : Kept) (place : ℕ) → AllHold kept → RevsBelow kept → CanBeCut kept

@@ -23,6 +23,7 @@ use Rattle.verb_core.specs.Patterns.{is_listed}
 use Rattle.verb_core.specs.Step.{Boxes, answers, saved, shown, step}
 use Rattle.verb_core.specs.Store.{MailStore}
 use Rattle.verb_bytes.specs.Limits.{IsKey, IsSight}
+use Rattle.paradox.specs.declared.words.Reason.TheVariants.{Fewer}
 use Rattle.paradox.specs.Answers.{amiss, broken, is_fewer, looks_at_texts}
 use Rattle.cycle_rules.specs.Judging.{shown_after, shown_by}
 use Rattle.kept_laws.proofs.Fits.{AreEntries, AreRows, Fits, FitsAnswer, FitsEntry, FitsRow, FitsShown, FitsStore}
@@ -86,7 +87,7 @@ fewer (Some w) None le e = tt
 fewer (Some w) (Some n) le e = let lt : n < w = ltb-true n w e in omega (arith, lt, le)
 
 changed_fits : (looks : Bool) (was now : Shown) → FitsShown was → FitsAnswer now → is_some (amiss looks was now) ≡ true → FitsShown now
-changed_fits looks (Count was) (Count now) le fits e = fewer was now le (cause_is (is_fewer was now) _ e)
+changed_fits looks (Count was) (Count now) le fits e = fewer was now le (cause_is (is_fewer was now) Fewer e)
 changed_fits looks Nothing (Count now) le fits e = absurd (cc e)
 changed_fits looks (Seen was) (Count now) le fits e = absurd (cc e)
 changed_fits looks (Named was) (Count now) le fits e = absurd (cc e)

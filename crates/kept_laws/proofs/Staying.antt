@@ -26,7 +26,7 @@ use Rattle.store_kept.specs.Founding.{Based, base_stands, based_on, founded, is_
 use Rattle.store_kept.specs.Kept.{Kept, Reports, new_desk, passed, performed, report_of, snapshotted, undone_as, undone_of, upgraded}
 use Rattle.paradox.specs.Letters.{notices}
 use Rattle.paradox.specs.declared.reports.Report.{Report}
-use Rattle.mail_cycle.proofs.Cycled.{few_notices, length_shown}
+use Rattle.mail_cycle.proofs.Cycled.{few_notices, few_told, length_shown}
 use Rattle.mail_desk.proofs.Timelines.{few}
 use Rattle.repair_desk.specs.Repairs.{inserted, is_dropped, kept, new_timeline, position, repaired, replaced_by, takes_text, text_asked}
 use Rattle.cycle_rules.specs.Asking.{NoNumbers, Rewinds, after_cycle, after_repair, cycle_due, due_anew, due_at, due_by, undone_at}
@@ -256,8 +256,9 @@ reworked_hold k at key repair undone sound h fits back =
     let same : length (kept_in k repair) ≡ length repair.items = length_shown (front_in repair) repair.items (compared_in k repair) in
     let most : length (kept_in k repair ++ told_in k at repair) ≤ k.next + 1 + repair.acts + length (told_in k at repair) = few (k.next + 1 + repair.acts + length (told_in k at repair)) (timeline_in k at repair) sound.timeline.apart sound.below in
     let stay : repair.kept ≤ length repair.items = fits.stay in
+    let fewer : length (told_in k at repair) ≤ length k.house.accounts = few_told k.house (k.next + repair.acts) k.next at (broken_in k repair) in
     let report : FitsReport (report_in k at repair) =
-    report_fits k at repair fits.before (run_fits k.base (timeline_in k at repair) h.base all).rows (omega (arith, room)) fits.point (omega (arith, long, same, most, stay, room)) fits.unmatched
+    report_fits k at repair fits.before (run_fits k.base (timeline_in k at repair) h.base all).rows (omega (arith, room)) fits.point (omega (arith, long, same, most, stay, fewer, room)) fits.unmatched
     (notices_fit (k.next + repair.acts) at ns (omega (arith, room, users))) in
     record { sound = sound; base = h.base; items = all; back = back; reports = put_fits key (report_in k at repair) k.reports fits.named report h.reports }
 
