@@ -18,8 +18,6 @@ use Rattle.verb_core.specs.Items.{IsWellFormed, users_in}
 use Rattle.verb_core.specs.Store.{is_house, is_known}
 use Rattle.verb_bytes.specs.declared.journal.CycleAsk.{CycleAsk}
 use Rattle.verb_bytes.specs.declared.journal.JournalRecord.TheVariants.{Verb, Operator, Cycle, Withdraw, Kept as KeptRecord}
-use Rattle.verb_bytes.specs.declared.write.TheConstants.{MOST_BODY}
-use Rattle.verb_bytes.specs.declared.kinds.TheConstants.{LAST_DEED, LAST_KEPT_DEED}
 use Rattle.verb_bytes.specs.Fields.{Field, ◌&◌, act_kind, actor_field, any_list_fields, any_text_field, are_in_range, body_field, deed_kind_to, flags_field, list_fields, moment_field, most_of_four, name_field, only_if, record_kind, text_field, u32_field, user_field}
 use Rattle.verb_bytes.specs.Spelling.{HasSpelling, act_fields, act_fields_within, ask_fields, deed_fields, deed_fields_within, item_fields, kept_deed_fields, kept_fields, replace_fields, shown_fields, shown_fields_within, shown_kind}
 use Rattle.verb_bytes.proofs.Exact.{in_range_both}
@@ -154,7 +152,7 @@ verb_fits i spelled =
       rev = omega (arith, none);
       again = record {
         at = number_in_range w64 LAST_MOMENT i.at (first_in_range (moment_field i.at) fields (verb_from i spelled));
-        deed = deed_again i.deed (deed_kept LAST_DEED MOST_BODY i.deed (deed_ranged i spelled));
+        deed = deed_again i.deed (deed_kept _ _ i.deed (deed_ranged i spelled));
       };
       shows = shown_ranged MOST_KEYS (shown_kind i.deed) i.shown
           (first_in_range (shown_fields (shown_kind i.deed) i.shown) (only_if (i.rev == 0))
@@ -178,7 +176,7 @@ kept_fits i spelled =
       rev = number_in_range w32 most_of_four i.rev (first_in_range (u32_field i.rev) last from_rev);
       again = record {
         at = number_in_range w64 LAST_MOMENT i.at (first_in_range (moment_field i.at) fields (kept_from i spelled));
-        deed = deed_again i.deed (deed_kept LAST_KEPT_DEED most_of_four i.deed (first_in_range (kept_deed_fields i.deed) (shown_fields_within most_of_four (shown_kind i.deed) i.shown) from_deed));
+        deed = deed_again i.deed (deed_kept _ _ i.deed (first_in_range (kept_deed_fields i.deed) (shown_fields_within most_of_four (shown_kind i.deed) i.shown) from_deed));
       };
       shows = shown_ranged most_of_four (shown_kind i.deed) i.shown (others_in_range (kept_deed_fields i.deed) (shown_fields_within most_of_four (shown_kind i.deed) i.shown) from_deed);
     }
@@ -190,7 +188,7 @@ act_fits number at a few le ranged = record {
   rev = omega arith;
   again = record {
     at = le;
-    deed = deed_again (Acts a) (act_kept 15 MOST_BODY a (in_range_both (deed_kind_to 15 14) (act_fields a) (byte_fits 1 15 14 (omega arith) (omega arith)) ranged));
+    deed = deed_again (Acts a) (act_kept 15 _ a (in_range_both (deed_kind_to 15 14) (act_fields a) (byte_fits 1 15 14 (omega arith) (omega arith)) ranged));
   };
   shows = tt;
 }

@@ -117,13 +117,13 @@ joined_rows (c ∷ cs) rs h k = added_rows c.0 c.1 (add_rows cs rs) h.0.0 h.0.1 
 
 module _ (u : User) (source target : List ℕ) (name : IsName target) where
   -- under its new name a mailbox that moves has a name
-  abbrev Fits : BoxId × Mailbox → Type 0
-  Fits r = is_at_or_below u source r.0 ≡ true → IsName (moved_name source target r.0.name)
+  abbrev FitsMoved : BoxId × Mailbox → Type 0
+  FitsMoved r = is_at_or_below u source r.0 ≡ true → IsName (moved_name source target r.0.name)
 
-  moved_fits : (rs : Boxes) → AreRows rs → AllByRecursion Fits rs → AreRows (moved u source target rs)
+  moved_fits : (rs : Boxes) → AreRows rs → AllByRecursion FitsMoved rs → AreRows (moved u source target rs)
   moved_fits rs h fit = joined_rows _ _ (news rs h fit) (all_filtered FitsRow (λ r. not (is_at_or_below u source r.0)) rs h)
     where
-      news : (rs : Boxes) → AreRows rs → AllByRecursion Fits rs → AreRows (map (λ (r : BoxId × Mailbox). (box_of u (moved_name source target r.0.name), r.1)) (filter (λ (r : BoxId × Mailbox). is_at_or_below u source r.0) rs))
+      news : (rs : Boxes) → AreRows rs → AllByRecursion FitsMoved rs → AreRows (map (λ (r : BoxId × Mailbox). (box_of u (moved_name source target r.0.name), r.1)) (filter (λ (r : BoxId × Mailbox). is_at_or_below u source r.0) rs))
       news [] h fit = tt
       news (r ∷ rs) h fit =
           elim (is_at_or_below u source r.0) as (λ b. is_at_or_below u source r.0 ≡ b → AreRows (map (λ (r : BoxId × Mailbox). (box_of u (moved_name source target r.0.name), r.1)) (cond b (r ∷ filter (λ (r : BoxId × Mailbox). is_at_or_below u source r.0) rs) (filter (λ (r : BoxId × Mailbox). is_at_or_below u source r.0) rs)))) [
@@ -132,11 +132,11 @@ module _ (u : User) (source target : List ℕ) (name : IsName target) where
           ] refl
 
   -- no inferior gets too long a name
-  short_fits : (rs : Boxes) → AreRows rs → list_any (λ n. is_inferior source n && nat_lt MOST_NAME (length (moved_name source target n))) (names_of u rs) ≡ false → AllByRecursion Fits rs
+  short_fits : (rs : Boxes) → AreRows rs → list_any (λ n. is_inferior source n && nat_lt MOST_NAME (length (moved_name source target n))) (names_of u rs) ≡ false → AllByRecursion FitsMoved rs
   short_fits [] h short = tt
   short_fits (r ∷ rs) h short =
       elim (same_user u r.0.user) as (λ b. same_user u r.0.user ≡ b
-      → list_any (λ n. is_inferior source n && nat_lt MOST_NAME (length (moved_name source target n))) (map (λ (q : BoxId × Mailbox). q.0.name) (cond b (r ∷ rows_of u rs) (rows_of u rs))) ≡ false → AllByRecursion Fits (r ∷ rs)) [
+      → list_any (λ n. is_inferior source n && nat_lt MOST_NAME (length (moved_name source target n))) (map (λ (q : BoxId × Mailbox). q.0.name) (cond b (r ∷ rows_of u rs) (rows_of u rs))) ≡ false → AllByRecursion FitsMoved (r ∷ rs)) [
         | true ↦ λ e short. (λ at. fits r.0.name h.0.0 (second_so _ _ at) (or_first _ _ short), short_fits rs h.1 (or_second _ _ short))
         | false ↦ λ e short. (λ at. absurd (true≢false (sym (first_so _ _ at) ∙ e)), short_fits rs h.1 short)
       ] refl short
@@ -156,20 +156,20 @@ module _ (u : User) (source target : List ℕ) (name : IsName target) where
             | false ↦ λ e below. moved_named source target n name is (ltb-false 200 (length (moved_name source target n)) (subst (λ (b : Bool). (b && nat_lt MOST_NAME (length (moved_name source target n))) ≡ false) below short))
           ] refl at
 
-  fits_added : (id : BoxId) (m : Mailbox) (rs : Boxes) → Fits (id, m) → AllByRecursion Fits rs → AllByRecursion Fits (add_row id m rs)
+  fits_added : (id : BoxId) (m : Mailbox) (rs : Boxes) → FitsMoved (id, m) → AllByRecursion FitsMoved rs → AllByRecursion FitsMoved (add_row id m rs)
   fits_added id m [] new h = (new, tt)
   fits_added id m (r ∷ rs) new h =
-      elim (box_cmp id r.0) as (λ o. AllByRecursion Fits (rows.by_order o ((id, m) ∷ r ∷ rs) ((r.0, m) ∷ rs) (r ∷ add_row id m rs))) [
+      elim (box_cmp id r.0) as (λ o. AllByRecursion FitsMoved (rows.by_order o ((id, m) ∷ r ∷ rs) ((r.0, m) ∷ rs) (r ∷ add_row id m rs))) [
         | Less ↦ (new, h)
         | Equal ↦ (h.0, h.1)
         | Greater ↦ (h.0, fits_added id m rs new h.1)
       ]
 
   -- mailboxes that are made do not move
-  fits_created : (names : List (List ℕ)) (rs : Boxes) → AllByRecursion (λ n. is_at_or_below u source (box_of u n) ≡ true → ⊥) names → AllByRecursion Fits rs → AllByRecursion Fits (all_created u names rs)
+  fits_created : (names : List (List ℕ)) (rs : Boxes) → AllByRecursion (λ n. is_at_or_below u source (box_of u n) ≡ true → ⊥) names → AllByRecursion FitsMoved rs → AllByRecursion FitsMoved (all_created u names rs)
   fits_created [] rs off h = h
   fits_created (n ∷ names) rs off h =
-      fits_created names (created (box_of u n) rs) off.1 (either (λ (ss : Boxes). AllByRecursion Fits ss) (has_row (box_of u n) rs) rs (add_row (box_of u n) no_mail rs) h (fits_added (box_of u n) no_mail rs (λ at. absurd (off.0 at)) h))
+      fits_created names (created (box_of u n) rs) off.1 (either (λ (ss : Boxes). AllByRecursion FitsMoved ss) (has_row (box_of u n) rs) rs (add_row (box_of u n) no_mail rs) h (fits_added (box_of u n) no_mail rs (λ at. absurd (off.0 at)) h))
 
   -- the superiors of the target are not below the source, if it is not
   superiors_off : is_inferior source target ≡ false → AllByRecursion (λ n. is_at_or_below u source (box_of u n) ≡ true → ⊥) (superiors target)

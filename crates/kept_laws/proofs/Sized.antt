@@ -34,7 +34,6 @@ use Rattle.paradox.specs.declared.words.Reason.{Reason}
 use Rattle.paradox.specs.declared.words.Reason.TheVariants as reason
 use Rattle.paradox.specs.declared.words.Verb.{Verb as UserVerb}
 use Rattle.paradox.specs.declared.words.Verb.TheVariants as verb
-use Rattle.verb_bytes.specs.declared.write.TheConstants.{ALL_FLAGS}
 use Rattle.verb_bytes.specs.Fields.{Field, ◌&◌, any_list_fields, are_in_range, bool_field, byte_field, flags_code, flags_field, key_field, moment_field, most_of_eight, most_of_four, name_field, number_field, option_fields, u32_field, u64_field, user_field, worth}
 use Rattle.verb_bytes.specs.Limits.{IsKey, IsSight}
 use Rattle.verb_bytes.specs.Places.{size_of}
@@ -97,7 +96,7 @@ worth_most true n = omega arith
 worth_most false n = omega arith
 
 flags_fit : (f : Flags) → are_in_range (flags_field f) ≡ true
-flags_fit f = byte_fits 0 ALL_FLAGS (flags_code f) (omega arith) (omega (arith, worth_most f.answered 1, worth_most f.flagged 2, worth_most f.deleted 4, worth_most f.seen 8, worth_most f.draft 16))
+flags_fit f = byte_fits 0 31 (flags_code f) (omega arith) (omega (arith, worth_most f.answered 1, worth_most f.flagged 2, worth_most f.deleted 4, worth_most f.seen 8, worth_most f.draft 16))
 
 verb_fits : (v : UserVerb) → are_in_range (verb_field v) ≡ true
 verb_fits verb.Deliver = byte_fits 1 13 1 (omega arith) (omega arith)
