@@ -1,5 +1,5 @@
 -- What the command `serve` answers, and what it leaves of the link and of the disk.
-use Rattle.std.specs.Prelude.{◌≡◌, ◌⊎◌, ℕ, ◌^◌, false, List, Result, Ok, Err}
+use Rattle.std.specs.Prelude.{◌≡◌, ◌⊎◌, ℕ, ◌^◌, false, List, ◌++◌, Result, Ok, Err}
 use Rattle.std.specs.List.{list_any}
 use Rattle.undo_outside.specs.declared.event.LinkNote.{LinkNote}
 use Rattle.undo_outside.specs.Calls.{LinkTold}
@@ -17,6 +17,7 @@ use Rattle.mail_loop.specs.declared.serve.ServeFault.{ServeFault}
 use Rattle.mail_loop.specs.declared.serve.ServeFault.TheVariants.{Disk}
 use Rattle.mail_loop.specs.Serving.{Step, ServedOver, reads_in, out_of_memory_in, unsealed_in}
 use Rattle.mail_loop.specs.Acknowledged.{AnswersLast, WentThrough}
+use Rattle.journal_laws.specs.Keeping.{KeepsMail}
 use Rattle.mail_proxy.specs.Opening.{OpensNone}
 use Rattle.mail_proxy.specs.Script.{IsKeptWell, Journals, last_line, status_of}
 use Rattle.mail_proxy.specs.Texts.{End}
@@ -44,14 +45,17 @@ pub record ServesLink {D : Type 0} (told : D → DiskTold) (link link' : LinkTol
 module _ {D : Type 0} (told : D → DiskTold) where
   -- The events are served over the desk of a store that was opened, and then the disk gets no call more. On an honest disk the desk that was
   -- opened holds its texts. So what is kept at last is what the records leave, its store is what the items in force leave, and no turn was
-  -- given another text than was stored. What was answered before a moment is in every image of that moment and of each later one.
+  -- given another text than was stored. What was answered before a moment is in every image of that moment and of each later one. In every
+  -- state that the run leaves, at a moment or by a crash, a user, name, UIDVALIDITY and UID name one message and one text. Each message
+  -- that was given lies there once, or was taken by one item.
   abbrev pub ServesOn : D → LinkTold → LinkTold → Lasting D → End D → Type 0
   ServesOn disk link link' first end =
       (last : Lasting D) × (run : ServesLink told link link' first last end.status end.output) × (end.disk ≡ last.disk)
       × ((told disk).honest
       → (journals : Journals (told disk) first.kept run.added (unsealed_in run.steps first.kept) (told end.disk))
       × HoldsTexts told first × IsRun last.kept × ((reads_in run.steps first.kept).wrong ≡ 0)
-      × AnswersLast told journals.records first.kept run.through.0 (told end.disk))
+      × AnswersLast told journals.records first.kept run.through.0 (told end.disk)
+      × KeepsMail journals.records (run.added ++ unsealed_in run.steps first.kept))
 
   -- what `serve` comes to: no store was opened, and the link got no call; or one was, and its events were served over it
   abbrev pub ServesStore : LinkTold → LinkTold → D → End D → Type 0

@@ -11,6 +11,7 @@ use crate::generating::generate;
 use crate::plan::{LastLine, Plan, only_line};
 use crate::play::playing_desk;
 use crate::serving::{MOST_EVENTS, outcome_over, plan_of};
+use journal_laws::runs_keep_mail;
 use mail_desk::Counts;
 use mail_loop::serve_events;
 use std::alloc::Global;
@@ -23,6 +24,7 @@ use undo_outside::{Disk, Events, Gate};
 pub fn plan_grow<R: Threads + Sync, G: Gate>(rt: &R, alloc: Global, rounds: u32, gate: &G) -> Plan
     ensures { Grows rounds result.status (output_of result) }
 {
+    runs_keep_mail();
     match generate(alloc, rounds) {
         Ok(events) => grow_events(rt, alloc, rounds, events, gate),
         Err(NoMemory) => only_line(alloc, 8, LastLine::NoMemory),
@@ -40,6 +42,7 @@ fn grow_events<R: Threads + Sync, G: Gate>(
     requires { events ≡ generated rounds }
     ensures { Grows rounds result.status (output_of result) }
 {
+    runs_keep_mail();
     match playing_desk(alloc) {
         Ok(desk) => {
             let mut desk = desk;

@@ -8,11 +8,11 @@ pub returns-in-Ok : goal.returns-in-Ok
 returns-in-Ok g c =
     let desk = c.in-Ok.desk in
     let plan = c.serve_generated.result in
-    grows_over _ c.args.rounds c.args.events desk c.serve_generated.new.desk plan.status (output_of plan) c.requires c.in-Ok.ensures.kept c.in-Ok.ensures.reliable
+    grows_over _ c.runs_keep_mail.ensures c.args.rounds c.args.events desk c.serve_generated.new.desk plan.status (output_of plan) c.requires c.in-Ok.ensures.kept c.in-Ok.ensures.reliable
     c.in-Ok.ensures.holds
     c.serve_generated.ensures
 
 pub returns-in-Err : goal.returns-in-Err
 returns-in-Err g c =
     let plan = c.only_line.result in
-    out_of_memory_before c.args.rounds plan.status (output_of plan) (ap (λ (p : Plan). p.status) c.only_line.ensures) (ap output_of c.only_line.ensures)
+    out_of_memory_before c.runs_keep_mail.ensures c.args.rounds plan.status (output_of plan) (ap (λ (p : Plan). p.status) c.only_line.ensures) (ap output_of c.only_line.ensures)

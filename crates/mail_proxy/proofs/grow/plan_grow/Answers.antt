@@ -7,4 +7,4 @@ use Rattle.mail_proxy.proofs.grow.plan_grow.Goals as goal
 pub returns-in-Err : goal.returns-in-Err
 returns-in-Err g c =
     let plan = c.only_line.result in
-    out_of_memory_before c.args.rounds plan.status (output_of plan) (ap (λ (p : Plan). p.status) c.only_line.ensures) (ap output_of c.only_line.ensures)
+    out_of_memory_before c.runs_keep_mail.ensures c.args.rounds plan.status (output_of plan) (ap (λ (p : Plan). p.status) c.only_line.ensures) (ap output_of c.only_line.ensures)

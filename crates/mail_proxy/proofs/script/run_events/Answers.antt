@@ -1,4 +1,4 @@
-use Rattle.std.proofs.Common.{subst, sym, inr}
+use Rattle.std.proofs.Common.{◌++◌, subst, sym, inl, inr}
 use Rattle.mail_loop.specs.Acknowledged.{AnswersLast}
 use Rattle.mail_loop.specs.Serving.{unsealed_in}
 use Rattle.mail_proxy.specs.Script.{Journals}
@@ -24,6 +24,7 @@ returns-in-Ok g c =
             let (stands, answers) =
             subst (λ (d : g.row.D.Denot). (j : Journals (told c.args.disk) first.kept run.added unsealed (told d)) × AnswersLast told j.records first.kept run.through.0 (told d)) (sym c.into_disk.ensures)
             (journals told g.met.D.Disk.tells_truth c.answered_is_kept.ensures.kept c.args.disk first last run.added unsealed run.through.0 c.in-Ok.ensures.started run.seals run.through.2 texts honest) in
-            (stands, texts, (run.seals.texts texts).texts.runs, run.read.honest texts, answers),
+            let behind = c.desks_run.ensures.run stands.records run.added unsealed first last stands.state_is (inl texts) run.seals in
+            (stands, texts, (run.seals.texts texts).texts.runs, run.read.honest texts, answers, c.runs_keep_mail.ensures stands.records (run.added ++ unsealed) first.kept behind),
       ),
     )
