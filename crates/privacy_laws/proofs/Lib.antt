@@ -1,0 +1,14 @@
+pub mod Texts
+pub mod Bodies
+pub mod Steps
+pub mod Beside
+pub mod Asking
+pub mod Services
+pub mod Turning
+pub mod Reading
+pub mod Outside
+pub mod Events
+pub mod Replies
+pub mod Maildrops
+pub mod Closing
+pub mod Rows

@@ -1,0 +1,4 @@
+pub mod Agreeing
+pub mod Clients
+pub mod Told
+pub mod Others

@@ -1,0 +1,40 @@
+-- What other users do.
+use Rattle.std.specs.Prelude.{◌≡◌, ◌⊎◌, ◌<◌, true, false, List, [], ◌∷◌}
+use Rattle.undo_base.specs.declared.keys.User.{User}
+use Rattle.verb_core.specs.declared.conf.House.{House}
+use Rattle.verb_core.specs.declared.item.Item.{Item}
+use Rattle.verb_core.specs.declared.mailbox.BoxId.{BoxId}
+use Rattle.verb_core.specs.Aims.{sought_by}
+use Rattle.verb_core.specs.Boxes.{same_user}
+use Rattle.verb_core.specs.Items.{IsWellFormed, actor, is_own}
+use Rattle.verb_core.specs.Store.{MailStore}
+use Rattle.verb_core.specs.Touched.{touches_box}
+use Rattle.store_kept.specs.Kept.{Kept, performed, store_of}
+
+-- an item touches none of a user's mailboxes: another user's own, a delivery to others, an act on others
+abbrev pub Spares : User → MailStore → Item → Type 0
+Spares u s i = (id : BoxId) → same_user u id.user ≡ true → touches_box (sought_by s i) i id ≡ false
+
+-- an item can be performed: it is well-formed, and has the next number
+pub record CanFollow (house : House) (kept : Kept) (i : Item) : Type 0 where
+  pub formed : IsWellFormed house i
+  pub number : i.number ≡ kept.next
+  pub left : kept.next < 4194304
+
+-- the user's own item, the same in both
+abbrev pub IsOwnItem : User → Item → Item → Type 0
+IsOwnItem u i j = (i ≡ j) × (is_own i.deed ≡ true) × (actor i.by i.deed ≡ u)
+
+-- Two runs of items are alike for a user: each item of the user's own stands in both, and beside each that touches none of the user's mailboxes
+-- stands another such.
+abbrev pub AreAlike : House → User → Kept → Kept → List Item → List Item → Type 0
+AreAlike house u k l [] [] = Unit {0}
+AreAlike house u k l [] (j ∷ js) = ⊥
+AreAlike house u k l (i ∷ is) [] = ⊥
+AreAlike house u k l (i ∷ is) (j ∷ js) =
+    CanFollow house k i × CanFollow house l j × (IsOwnItem u i j ⊎ (Spares u (store_of k) i × Spares u (store_of l) j)) × AreAlike house u (performed k i) (performed l j) is js
+
+-- items are performed, one after the other
+abbrev pub all_performed : Kept → List Item → Kept
+all_performed kept [] = kept
+all_performed kept (i ∷ is) = all_performed (performed kept i) is
