@@ -17,7 +17,7 @@ use Rattle.verb_core.specs.declared.mailbox.Mailbox.{Mailbox}
 use Rattle.verb_core.specs.Names.{inbox, is_empty, superiors, with_superiors, is_inferior, moved_name}
 use Rattle.verb_core.specs.Mailboxes.{no_mail}
 use Rattle.verb_core.specs.Boxes.{box_cmp, box_of, is_at_or_below, has_row, row_at, add_row, drop_row, names_of, rows_of, has_superiors, is_rising, same_user}
-use Rattle.verb_core.specs.Step.{Boxes, created, all_created, created_below, inbox_renamed, moved, after_rename, is_in_vain, way_of}
+use Rattle.verb_core.specs.Step.{Boxes, created, all_created, created_below, inbox_renamed, moved, after_rename, changes_nothing, way_of}
 use Rattle.verb_core.specs.Touched.{SameAt, is_one}
 use Rattle.verb_core.proofs.BoxLaws.{exact_boxes, boxes_total, tied, itself, bytes_eq-refl, same_rows, row_at-add_row, row_at-drop_row, row_at-where, row_at-rows_of, rising-rows_of, rising-add_row, rising-drop_row, same_user-refl}
 use Rattle.verb_core.proofs.Searched.{less_is}
@@ -404,7 +404,7 @@ module _ (u : User) (source target : List ℕ) (rows boxes : Boxes) (rise : is_r
   pub planned : list_all (has_superiors boxes) boxes ≡ true → way_of u source target boxes ≡ Plain
       → renamed_by u source target (moves_of u source target rows) (all_created u (missing_of u (superiors target) rows) boxes) ≡ after_rename (way_of u source target boxes) u source target boxes
   planned whole plain =
-      let facts : (is_in_vain u source target boxes ≡ false) × (has_row (box_of u source) boxes ≡ true) × (has_row (box_of u target) boxes ≡ false) = plain_facts (is_in_vain u source target boxes) (has_row (box_of u source) boxes) (has_row (box_of u target) boxes) plain in
+      let facts : (changes_nothing u source target boxes ≡ false) × (has_row (box_of u source) boxes ≡ true) × (has_row (box_of u target) boxes ≡ false) = plain_facts (changes_nothing u source target boxes) (has_row (box_of u source) boxes) (has_row (box_of u target) boxes) plain in
       let names = not_in_vain u source target boxes facts.0 in
       elim (bytes_eq source inbox) as (λ b. bytes_eq source inbox ≡ b
       → cond b (inbox_renamed u target (all_created u (missing_of u (superiors target) rows) boxes)) (all_moved u (moves_of u source target rows) (all_created u (missing_of u (superiors target) rows) boxes))

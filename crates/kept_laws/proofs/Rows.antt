@@ -34,7 +34,7 @@ use Rattle.verb_core.specs.Mailboxes.{changed, copies, emptied, entry_of, expung
 use Rattle.verb_core.specs.Names.{inbox, is_fixed, is_inferior, lost_found, moved_name, superiors, with_superiors}
 use Rattle.verb_core.specs.Filters.{deciding}
 use Rattle.verb_core.specs.Recipients.{recipients, some_unknown}
-use Rattle.verb_core.specs.Step.{Boxes, after_rename, all_created, conf_after, created, deleted, in_order, inbox_renamed, is_in_vain, is_overlong, left, message, moved, new_mail, put_at, rearranged, run, saved, step, way_of, with_alias, with_filter}
+use Rattle.verb_core.specs.Step.{Boxes, after_rename, all_created, conf_after, created, deleted, in_order, inbox_renamed, changes_nothing, is_overlong, left, message, moved, new_mail, put_at, rearranged, run, saved, step, way_of, with_alias, with_filter}
 use Rattle.verb_core.specs.Store.{MailStore, opening, users_of}
 use Rattle.verb_core.proofs.Moves.{not_below, not_in_vain}
 use Rattle.verb_core.proofs.NameLaws.{through}
@@ -182,7 +182,7 @@ module _ (u : User) (source target : List ℕ) (name : IsName target) where
             | false ↦ λ e lower. through source n target lower above
           ] refl at
 
-plain_rows : (u : User) (source target : List ℕ) (rs : Boxes) → is_in_vain u source target rs ≡ false → has_row (box_of u target) rs ≡ false → IsName target → AreRows rs → AreRows (after_rename Plain u source target rs)
+plain_rows : (u : User) (source target : List ℕ) (rs : Boxes) → changes_nothing u source target rs ≡ false → has_row (box_of u target) rs ≡ false → IsName target → AreRows rs → AreRows (after_rename Plain u source target rs)
 plain_rows u source target rs sound gone name h =
     let made : AreRows (all_created u (superiors target) rs) = created_rows u (superiors target) rs (superiors_named target name) h in
     let known = not_in_vain u source target rs sound in
@@ -206,13 +206,13 @@ merged_rows u source target rs h =
 
 renamed_rows : (u : User) (source target : List ℕ) (rs : Boxes) → IsName target → AreRows rs → AreRows (after_rename (way_of u source target rs) u source target rs)
 renamed_rows u source target rs name h =
-    elim (is_in_vain u source target rs || not (has_row (box_of u source) rs)) as (λ b. (is_in_vain u source target rs || not (has_row (box_of u source) rs)) ≡ b →
+    elim (changes_nothing u source target rs || not (has_row (box_of u source) rs)) as (λ b. (changes_nothing u source target rs || not (has_row (box_of u source) rs)) ≡ b →
     AreRows (after_rename (cond b NoSource (cond (has_row (box_of u target) rs) Merged Plain)) u source target rs)) [
       | true ↦ λ e. h
       | false ↦ λ e.
           elim (has_row (box_of u target) rs) as (λ t. has_row (box_of u target) rs ≡ t → AreRows (after_rename (cond t Merged Plain) u source target rs)) [
             | true ↦ λ t. merged_rows u source target rs h
-            | false ↦ λ t. plain_rows u source target rs (or_parts (is_in_vain u source target rs) _ e).0 t name h
+            | false ↦ λ t. plain_rows u source target rs (or_parts (changes_nothing u source target rs) _ e).0 t name h
           ] refl
     ] refl
 

@@ -20,7 +20,7 @@ use Rattle.verb_core.specs.Names.{inbox, lost_found, is_empty, is_fixed, is_infe
 use Rattle.verb_core.specs.Boxes.{box_cmp, box_of, row_at, has_row, add_row, drop_row, change_row, has_inferior, has_superiors, is_at_or_below, is_rising, mail_at, same_user}
 use Rattle.verb_core.specs.Aims.{box_aimed}
 use Rattle.verb_core.specs.Items.{actor}
-use Rattle.verb_core.specs.Step.{Boxes, put_at, rearranged, created, all_created, left, moved, inbox_renamed, is_in_vain, way_of, after_rename, saved}
+use Rattle.verb_core.specs.Step.{Boxes, put_at, rearranged, created, all_created, left, moved, inbox_renamed, changes_nothing, way_of, after_rename, saved}
 use Rattle.verb_core.specs.Stamps.{stamps_after}
 use Rattle.verb_core.specs.Touched.{is_one}
 use Rattle.verb_core.proofs.BoxLaws.{tied, bytes_eq-refl, same_rows, same_user-refl, row_at-add_row, row_at-where}
@@ -158,7 +158,7 @@ module _ (number : ℕ) (u : User) (boxes : Boxes) (stamps : StampRows) (rising 
   moves_are : (source target : List ℕ) → bytes_eq source inbox ≡ false → way_of u source target boxes ≡ Plain
       → all_moved u (moves_of u source target boxes) (all_created u (superiors target) boxes) ≡ moved u source target (all_created u (superiors target) boxes)
   moves_are source target other plain =
-      let facts = plain_facts (is_in_vain u source target boxes) (has_row (box_of u source) boxes) (has_row (box_of u target) boxes) plain in
+      let facts = plain_facts (changes_nothing u source target boxes) (has_row (box_of u source) boxes) (has_row (box_of u target) boxes) plain in
       let names = not_in_vain u source target boxes facts.0 in
       ap (all_moved u (moves_of u source target boxes)) (sym (made_among u boxes (superiors target) boxes (λ n h there. there)))
       ∙ moves_all u source target boxes boxes rising rising (λ q t. refl) whole names.0 names.3 (not_below source target other names.4) facts.1 facts.2
@@ -344,7 +344,7 @@ module _ (number : ℕ) (u : User) (boxes : Boxes) (stamps : StampRows) (same : 
     due_rename source target NoSource is = own number stamps q
     due_rename source target Merged is = due_left source
     due_rename source target Plain is =
-        let facts = plain_facts (is_in_vain u source target boxes) (has_row (box_of u source) boxes) (has_row (box_of u target) boxes) is in
+        let facts = plain_facts (changes_nothing u source target boxes) (has_row (box_of u source) boxes) (has_row (box_of u target) boxes) is in
         due_renamed source target (not_in_vain u source target boxes facts.0).0 facts.2
 
     -- by cases of deeds

@@ -25,7 +25,7 @@ use Rattle.verb_core.specs.Items.{actor}
 use Rattle.verb_core.specs.Live.{answered, asked_item, asks_fixed, deed_of, first_of, if_so, deletes_superior, is_misshapen, is_missing, is_there, is_users, live, misplaces, named, new_names, or_item, refusal, targets}
 use Rattle.verb_core.specs.Mailboxes.{emptied, no_mail, put_all}
 use Rattle.verb_core.specs.Names.{inbox, is_empty, is_fixed, is_new_name, lost_found, superiors, with_superiors}
-use Rattle.verb_core.specs.Step.{Boxes, after_rename, all_created, created_below, deleted, inbox_renamed, is_below_itself, is_in_vain, is_overlong, left, moved, new_mail, rearranged, renamed, saved, step}
+use Rattle.verb_core.specs.Step.{Boxes, after_rename, all_created, created_below, deleted, inbox_renamed, is_below_itself, changes_nothing, is_overlong, left, moved, new_mail, rearranged, renamed, saved, step}
 use Rattle.verb_core.specs.declared.item.Way.TheVariants.{Plain, NoSource, Merged}
 use Rattle.verb_core.specs.Store.{IsValid, MailStore}
 use Rattle.verb_core.specs.Touched.{is_one}
@@ -221,7 +221,7 @@ module _ (s : MailStore) (u : User) (sorted : rows.is_sorted box_cmp s.boxes ≡
         apart true e = absurd (true≢false (sym there ∙ ap (λ (n : List ℕ). has_row (box_of u n) rs) ((bytes_eq-Decides source target).0 e) ∙ free))
         apart false e = refl
 
-        not_vain : is_in_vain u source target rs ≡ false
+        not_vain : changes_nothing u source target rs ≡ false
         not_vain =
             let one = nor (is_empty target) (bytes_eq source lost_found) some (or_left (bytes_eq source lost_found) (is_fixed target) fixed) in
             let two = nor (is_empty target || bytes_eq source lost_found) (is_fixed target) one (or_right (bytes_eq source lost_found) (is_fixed target) fixed) in

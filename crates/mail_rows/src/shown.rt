@@ -3,7 +3,7 @@ ghost use Rattle.std.specs.Prelude.{◌≡◌, [], IsTrue, IfOk, option_map, len
 ghost use Rattle.verb_core.specs.declared.mailbox.Mailbox.{Mailbox as TheMailbox};
 ghost use Rattle.verb_core.specs.Boxes.{box_of, has_row, is_rising, mail_at, row_at};
 ghost use Rattle.verb_core.specs.Mailboxes.{keys_of};
-ghost use Rattle.verb_core.specs.Step.{is_in_vain as changes_nothing, saved, shown, way_of};
+ghost use Rattle.verb_core.specs.Step.{changes_nothing, saved, shown, way_of};
 
 use crate::inferiors::{is_below_itself, is_overlong};
 use crate::lookup::search_mailbox;
@@ -47,7 +47,7 @@ fn count_of(rows: &[(BoxId, Mailbox)], user: User, name: &Name) -> Result<Option
 }
 
 /// Whether the names are such that a RENAME changes nothing.
-fn is_in_vain(rows: &[(BoxId, Mailbox)], user: User, source: &Name, target: &Name) -> bool
+fn renames_nothing(rows: &[(BoxId, Mailbox)], user: User, source: &Name, target: &Name) -> bool
     requires { IsTrue (is_rising rows.now) }
     ensures { result ≡ changes_nothing user source.now target.now rows.now }
 {
@@ -64,7 +64,7 @@ pub fn way_of(rows: &[(BoxId, Mailbox)], user: User, source: &Name, target: &Nam
     requires { IsTrue (is_rising rows.now) }
     ensures { result ≡ way_of user source.now target.now rows.now }
 {
-    if is_in_vain(rows, user, source, target) || search_mailbox(rows, user, source).is_none() {
+    if renames_nothing(rows, user, source, target) || search_mailbox(rows, user, source).is_none() {
         return Way::NoSource;
     }
     if search_mailbox(rows, user, target).is_some() {

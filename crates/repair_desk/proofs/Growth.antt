@@ -25,7 +25,7 @@ use Rattle.verb_core.specs.Boxes.{add_row, box_cmp, box_of, change_row, drop_row
 use Rattle.verb_core.specs.Items.{actor}
 use Rattle.verb_core.specs.Mailboxes.{changed, emptied, is_among, no_flags, no_mail, put, put_all, reflagged, with_entries}
 use Rattle.verb_core.specs.Names.{inbox, is_empty, is_fixed, is_inferior, lost_found, moved_name, superiors, with_superiors}
-use Rattle.verb_core.specs.Step.{Boxes, after_rename, all_created, inbox_renamed, is_in_vain, left, moved, new_mail, put_at, rearranged, saved, step, way_of}
+use Rattle.verb_core.specs.Step.{Boxes, after_rename, all_created, inbox_renamed, changes_nothing, left, moved, new_mail, put_at, rearranged, saved, step, way_of}
 use Rattle.verb_core.specs.Store.{IsValid, MailStore}
 use Rattle.verb_core.specs.Touched.{is_one}
 use Rattle.verb_core.proofs.BoxLaws.{row_at-add_row, row_at-change_row, row_at-drop_row, row_at-where, tied}
@@ -219,7 +219,7 @@ module _ (q : BoxId) where
 
   renamed_carries : (u : User) (source target : List ℕ) (rs : Boxes) → list_all (has_superiors rs) rs ≡ true → Carries (row_at q rs) (row_at q (after_rename (way_of u source target rs) u source target rs))
   renamed_carries u source target rs whole =
-      elim (is_in_vain u source target rs || not (has_row (box_of u source) rs)) as (λ b. (is_in_vain u source target rs || not (has_row (box_of u source) rs)) ≡ b →
+      elim (changes_nothing u source target rs || not (has_row (box_of u source) rs)) as (λ b. (changes_nothing u source target rs || not (has_row (box_of u source) rs)) ≡ b →
       Carries (row_at q rs) (row_at q (after_rename (cond b NoSource (cond (has_row (box_of u target) rs) Merged Plain)) u source target rs))) [
         | true ↦ λ e. same_carries rs
         | false ↦ λ e.

@@ -5,7 +5,7 @@
 //! `unmatched` tells the asked numbers that did nothing. `asked` has what is asked, to be looked up by number, and `numbers` sets of numbers. `renew`
 //! (in `renewing`) makes the stamps after a cycle from the stores before and after it. What carries the crate: `edit` answers `edited`, exactly where
 //! the timeline has the point; `renew` answers `renewed`. `laws` has what holds of every repaired timeline, and of stamps: an item extends the
-//! mailboxes that stay.
+//! mailboxes that stay. `edit` and `edit_at` are asked for by the interface; cycles call `edit_behind`.
 #![tactic(auto)]
 
 mod asked;

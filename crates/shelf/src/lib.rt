@@ -4,7 +4,8 @@
 //! to the end. `reading` reads a text where its note says. `marks` keeps the places of snapshots by their positions. `section`,
 //! which mail_sections has, is what is asked of a text. What carries the crate: `Shelf::find` and `Shelf::size` tell the last
 //! note of a body and its length. `Shelf::text`, clause `payload`, gives what stands there in the payload on the disk.
-//! `Shelf::newest_at_or_before` tells the last snapshot that is not behind a position.
+//! `Shelf::newest_at_or_before` tells the last snapshot that is not behind a position; it is asked for by the interface, and the
+//! program calls `Shelf::marks_at_or_before`.
 #![tactic(auto)]
 
 mod marks;

@@ -3,7 +3,8 @@
 //! `touched` has the touches, `by_item` those of an item whose aims are known, `pairs` tells which items are independent
 //! and which commute, and `laws` what commuting means for the store. `specs/` has the table of touches and the tests.
 //! What carries the crate: `touches` gives what the table says, `commutes` and `independent` are its tests, and two items
-//! that commute leave the same store and the same answers in either order.
+//! that commute leave the same store and the same answers in either order. `commutes`, `independent` and `preferred` are asked
+//! for by the interface; the program calls `touches`, and plans by the tables of replay_plan.
 #![tactic(auto)]
 
 mod by_item;

@@ -8,9 +8,10 @@ use Rattle.undo_outside.specs.declared.fault.Fault.TheVariants.{Failed, NoMemory
 use Rattle.undo_outside.specs.Calls.{Rose, RoseOnce}
 
 -- What a disk tells: whether what it tells of its bytes is true; its length; what reads give; and which images a crash now may
--- leave. The moment is a number that doesn't fall; told is which images a crash at some moment since that one may have left. How
--- many reads and calls of `len` have failed, how many writes and syncs, and whether the last call did that found memory. And how
--- many writes found no memory, whether the last one did, and whether no call will fail.
+-- leave. The moment is a number that doesn't fall; `since` tells which images a crash at some moment since an earlier one may have
+-- left. `failed_reads` counts reads and calls of `len` that failed, `failed_writes` writes and syncs; `failed_last` tells whether
+-- the last call that found memory failed. `out_of_memory` counts writes that found no memory, and `out_of_memory_last` tells
+-- whether the last one did. The rest tells whether no call will fail.
 pub record DiskTold : Type 1 where
   pub honest : Type 0
   pub size : ℕ

@@ -18,7 +18,7 @@ use Rattle.verb_core.specs.declared.mailbox.Entry.{Entry}
 use Rattle.verb_core.specs.Names.{inbox, lost_found, is_fixed, superiors, with_superiors, is_inferior, moved_name}
 use Rattle.verb_core.specs.Mailboxes.{no_mail, put_all, emptied}
 use Rattle.verb_core.specs.Boxes.{box_cmp, box_of, same_user, has_row, row_at, has_superiors, has_inferior, is_at_or_below, change_row, drop_row, add_row, mail_at}
-use Rattle.verb_core.specs.Step.{Boxes, all_created, is_in_vain, is_below_itself, left, inbox_renamed, renamed, moved, saved, after_rename, rearranged, put_at}
+use Rattle.verb_core.specs.Step.{Boxes, all_created, changes_nothing, is_below_itself, left, inbox_renamed, renamed, moved, saved, after_rename, rearranged, put_at}
 use Rattle.verb_core.specs.Touched.{is_one}
 use Rattle.verb_core.proofs.BoxLaws.{tied, itself, bytes_eq-refl, same_user-refl}
 use Rattle.verb_core.proofs.RowLists.{has_row-all_created}
@@ -204,7 +204,7 @@ module _ (u : User) where
         | false ↦ λ e. closed-moved u source target rs closed above (not_below source target e sound)
       ] refl
 
-  closed-plain : (source target : List ℕ) (rs : Boxes) → is_in_vain u source target rs ≡ false → Closed rs → Closed (after_rename Plain u source target rs)
+  closed-plain : (source target : List ℕ) (rs : Boxes) → changes_nothing u source target rs ≡ false → Closed rs → Closed (after_rename Plain u source target rs)
   closed-plain source target rs sound closed =
       closed-renamed source target (all_created u (superiors target) rs) (not_in_vain u source target rs sound).4
       (λ n h. there-all_created u (superiors target) rs n h)
@@ -212,7 +212,7 @@ module _ (u : User) where
 
   closed-rename : (source target : List ℕ) (rs : Boxes) → Closed rs → Closed (rearranged u (Rename source target) rs)
   closed-rename source target rs closed =
-      elim (is_in_vain u source target rs || not (has_row (box_of u source) rs)) as (λ b. (is_in_vain u source target rs || not (has_row (box_of u source) rs)) ≡ b
+      elim (changes_nothing u source target rs || not (has_row (box_of u source) rs)) as (λ b. (changes_nothing u source target rs || not (has_row (box_of u source) rs)) ≡ b
       → Closed (after_rename (cond b NoSource (cond (has_row (box_of u target) rs) Merged Plain)) u source target rs)) [
         | true ↦ λ e. closed
         | false ↦ λ e. elim (has_row (box_of u target) rs) as (λ b. Closed (after_rename (cond b Merged Plain) u source target rs)) [

@@ -15,7 +15,7 @@ use Rattle.verb_core.specs.declared.item.Aim.{Aim}
 use Rattle.verb_core.specs.Names.{inbox, lost_found, is_empty, is_fixed, is_inferior, moved_name}
 use Rattle.verb_core.specs.Mailboxes.{put_all, emptied}
 use Rattle.verb_core.specs.Boxes.{box_cmp, box_of, has_row, row_at, add_row, change_row, drop_row, names_of, has_inferior, is_at_or_below, is_rising, same_user}
-use Rattle.verb_core.specs.Step.{Boxes, left, moved, put_at, is_in_vain, is_below_itself, is_overlong, way_of}
+use Rattle.verb_core.specs.Step.{Boxes, left, moved, put_at, changes_nothing, is_below_itself, is_overlong, way_of}
 use Rattle.verb_core.proofs.BoxLaws.{tied, itself, rising-change_row, rising-drop_row, rising-where, row_at-change_row, row_at-drop_row, row_at-add_row, row_at-where}
 use Rattle.verb_core.proofs.NameLaws.{moved_back}
 use Rattle.verb_core.proofs.RowLists.{first_there, row_at-add_rows, rising-add_rows}
@@ -194,7 +194,7 @@ overlong_same u source target rs ss to names =
 
 -- ---- what is known of names that are not in vain
 
-pub not_in_vain : (u : User) (source target : List ℕ) (rs : Boxes) → is_in_vain u source target rs ≡ false
+pub not_in_vain : (u : User) (source target : List ℕ) (rs : Boxes) → changes_nothing u source target rs ≡ false
     → (is_empty target ≡ false) × (bytes_eq source lost_found ≡ false) × (is_fixed target ≡ false) × (bytes_eq source target ≡ false) × (is_below_itself source target ≡ false) × (is_overlong u source target rs ≡ false)
 not_in_vain u source target rs h =
     let five = or_parts (is_empty target || bytes_eq source lost_found || is_fixed target || bytes_eq source target || is_below_itself source target) _ h in
