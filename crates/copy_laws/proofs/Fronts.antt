@@ -29,7 +29,7 @@ module _ (first sealing : List (List ℕ)) where
   found one (look ∷ looks) payloads (front, others) (inl stands) = (front.count, front.few, one look.view payloads (first ++ take front.count sealing) stands front.stands)
   found one (look ∷ looks) payloads (front, others) (inr seen) = found one looks payloads others seen
 
-  -- a front of a front
+  -- payloads that begin a front of the sealed ones are a front of them themselves
   front_of : (begins more left : List (List ℕ)) (count : ℕ) → count ≤ length sealing → (first ++ begins) ++ (more ++ left) ≡ first ++ take count sealing
       → (few : ℕ) × (few ≤ length sealing) × ((first ++ begins) ++ more ≡ first ++ take few sealing)
   front_of begins more left count few same =

@@ -7,7 +7,7 @@ use Rattle.store_kept.specs.Kept.{Kept}
 use Rattle.desk_journal.specs.Crashing.{LeavesFront}
 use Rattle.desk_journal.specs.Records.{StandsForRecords, state}
 
--- The bytes are damaged at a place, and with one closed gate there they stand for the records and the first of the others, and each of them can stand.
+-- The bytes are damaged at a place. With one closed gate there they stand for the records and the first of the others, and each of them can stand.
 pub record IsMendedTo (records others : List JournalRecord) (bytes : List ℕ) : Type 0 where
   pub place : ℕ
   pub damaged : IsDamagedAt bytes place
@@ -19,8 +19,8 @@ pub record HasAnswered (records : List JournalRecord) (kept : Kept) (bytes : Lis
   pub more : List JournalRecord
   pub leaves : LeavesFront records more bytes
 
--- The bytes are damaged at a place, and with one closed gate there they stand for these records, which leave this, and maybe for more behind them, and all
--- of them can stand.
+-- The bytes are damaged at a place. With one closed gate there they stand for these records, which leave this, and maybe for more behind them. All of
+-- them can stand.
 pub record IsMendedToAnswered (records : List JournalRecord) (kept : Kept) (bytes : List ℕ) : Type 0 where
   pub state_is : state records ≡ Some kept
   pub more : List JournalRecord

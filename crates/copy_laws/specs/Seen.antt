@@ -12,8 +12,8 @@ pub record IsSeen (disk : DiskTold) (moment : ℕ) (look : Look) : Type 0 where
   pub left : disk.since moment image
   pub same : (payloads : List (List ℕ)) → StandsFor image payloads → StandsFor look.view payloads
 
--- The premise on the system, of reads that a program makes since a moment while calls on the disk go on: each of them sees what a crash might have left,
--- and none goes back behind the one before it: no gate that was seen open, one byte, is seen closed later (`reads_go_forward`). A call that the system
+-- The premise on the system, of reads that a program makes since a moment while calls on the disk go on. Each of them sees what a crash might have left.
+-- None goes back behind the one before it: no gate, one byte, that was seen open is seen closed later (`reads_go_forward`). A call that the system
 -- answers in pieces, as page by page, is several reads.
 pub record AreReads (disk : DiskTold) (moment : ℕ) (looks : List Look) : Type 0 where
   pub seen : AllByRecursion (IsSeen disk moment) looks

@@ -33,8 +33,8 @@ pub fn damages_are_mended()
     ensures { (image new : List ℕ) (place : ℕ) → (damaged : IsDamagedAt image place) → IsOverwritten image place (0 ∷ []) new → StandsFor new damaged.payloads }
 {}
 
-/// What is seen while payloads are sealed is there once more are sealed behind them. And while any number of payloads is sealed, what is seen is there
-/// later where no gate that was seen open, one byte, is seen closed: so much is wanted of the system, and no more.
+/// What is seen while payloads are sealed is there once more are sealed behind them. While any number of them is sealed, what is seen is there later,
+/// if no gate, one byte, that was seen open is seen closed. No more than that is wanted of the system.
 pub fn reads_go_forward()
     ensures behind { (first added sealing : List (List ℕ)) (earlier later : List ℕ) → StandsForFront first added earlier
         → StandsForFront (first ++ added) sealing later → Keeps earlier later }

@@ -21,8 +21,8 @@ use desk_journal::laws::{crashes_leave_states, seals_join};
 use seal_log::one_reading;
 use undo_outside::Disk;
 
-/// A copy that was made while a desk sealed records stands for the records from before and the first of these, and all of them can stand, so that it
-/// opens; one of the length of its first read does so too, or one closed gate mends it to that.
+/// A copy that was made while a desk sealed records stands for the records from before and the first of these. All of them can stand, so it opens.
+/// One of the length of its first read does so too, or one closed gate mends it to that.
 pub fn copies_of_a_desk<D: Disk>()
     ensures whole { (records added failed : List JournalRecord) (old new : Lasting D) (look : Look) (looks : List Look)
         → IsSettled (D.told old.disk) old.gate (payloads_of records) → state records ≡ Some old.kept → HoldsTexts D.told old ⊎ ReadNoTexts added
@@ -41,8 +41,8 @@ pub fn copies_of_a_desk<D: Disk>()
     crashes_leave_states::<D>();
 }
 
-/// What was answered before a copy began is in it. Where what was answered lasts (`answered_is_kept` of mail_loop, and `run` hands it on), a copy that
-/// was begun behind the turns of a step, and read until the end was found, stands for all records that were sealed by then, and maybe for more behind
+/// What was answered before a copy began is in it, where what was answered lasts (`answered_is_kept` of mail_loop, and `run` hands it on). The copy is
+/// begun behind the turns of a step, and read until the end is found. It stands for all records that were sealed by then, and maybe for more behind
 /// them, and all of them can stand. So does one of the length of its first read, or one closed gate mends it to have them.
 pub fn copies_have_what_was_answered<D: Disk>()
     ensures whole { (records : List JournalRecord) (first : Kept) (course before : List (Stretch D)) (w : Stretch D) (after : List (Stretch D)) (disk : D)

@@ -33,7 +33,7 @@ use Rattle.store_kept.specs.Kept.{Kept, Reports, is_by_key, key_cmp, new_desk, o
 use Rattle.repair_desk.specs.Repairs.{is_among, position}
 use Rattle.cycle_rules.specs.Asking.{NoNumbers, Rewinds, after_cycle, after_repair, undone_at, due_anew, due_at, due_by}
 use Rattle.cycle_rules.specs.Cycles.{leaves_numbers, repair_of}
-use Rattle.cycle_rules.specs.Judging.{judged, reason_by, told}
+use Rattle.cycle_rules.specs.Judging.{judged, reason_by, with_told}
 use Rattle.cycle_rules.specs.Repairing.{Repair, broken_in, compared_in, leaves_numbers_for, renewed_by, report_in, reworked, stamps_in, told_in}
 use Rattle.cycle_rules.specs.Withdrawals.{after_withdrawal, restored_items, unedit_of, withdraw_due_anew, withdraw_due_at}
 use Rattle.mail_cycle.proofs.Cycled.{few_told}
@@ -60,7 +60,7 @@ user_known house i users known (Some u) own =
     both_true (is_known house u) true (first_so (is_known house u) (list_all (is_known house) users) (ap (λ (o : Option User). list_all (is_known house) (cons_option o users)) (sym own) ∙ known)) refl
 
 told_known : (house : House) (i : Item) → IsWellFormed house i → (reason : Option Reason) (list : List BrokenItem) → list_all (λ (b : BrokenItem). is_known house b.user) list ≡ true
-    → list_all (λ (b : BrokenItem). is_known house b.user) (told i reason list) ≡ true
+    → list_all (λ (b : BrokenItem). is_known house b.user) (with_told i reason list) ≡ true
 told_known house i formed None list known = known
 told_known house i formed (Some reason) list known = by i.by refl (user_known house i (users_in i.deed) formed.users i.by refl)
   where
@@ -81,7 +81,7 @@ judged_known house drops (i ∷ items) now formed =
     by (is_among drops i.number) (judged_known house drops items now formed.1) (judged_known house drops items (drop 1 now) formed.1)
   where
     by : (b : Bool) → list_all (λ (x : BrokenItem). is_known house x.user) (judged drops items now) ≡ true → list_all (λ (x : BrokenItem). is_known house x.user) (judged drops items (drop 1 now)) ≡ true
-        → list_all (λ (x : BrokenItem). is_known house x.user) (cond b (told i (Some Withdrawn) (judged drops items now)) (told i (reason_by i now) (judged drops items (drop 1 now)))) ≡ true
+        → list_all (λ (x : BrokenItem). is_known house x.user) (cond b (with_told i (Some Withdrawn) (judged drops items now)) (with_told i (reason_by i now) (judged drops items (drop 1 now)))) ≡ true
     by true one two = told_known house i formed.0 (Some Withdrawn) (judged drops items now) one
     by false one two = told_known house i formed.0 (reason_by i now) (judged drops items (drop 1 now)) two
 

@@ -11,8 +11,8 @@ use Rattle.paradox.specs.declared.words.Reason.TheVariants.{Withdrawn}
 use Rattle.repair_desk.specs.Repairs.{is_among}
 
 -- an item that is told of for a reason, if there is one, before others
-abbrev pub told : Item → Option Reason → List BrokenItem → List BrokenItem
-told i reason list = cons_option (option_and_then (told_of i) reason) list
+abbrev pub with_told : Item → Option Reason → List BrokenItem → List BrokenItem
+with_told i reason list = cons_option (option_and_then (told_of i) reason) list
 
 -- why what an item showed no longer holds: it shows the first of these answers now
 abbrev pub reason_by : Item → List Shown → Option Reason
@@ -24,8 +24,8 @@ reason_by i (now ∷ rest) = broken i now
 abbrev pub judged : List ℕ → List Item → List Shown → List BrokenItem
 judged drops [] now = []
 judged drops (i ∷ is) now =
-    if is_among drops i.number then told i (Some Withdrawn) (judged drops is now)
-    else told i (reason_by i now) (judged drops is (drop 1 now))
+    if is_among drops i.number then with_told i (Some Withdrawn) (judged drops is now)
+    else with_told i (reason_by i now) (judged drops is (drop 1 now))
 
 -- an item that shows the first of these answers now: what it showed is what it shows, unless that no longer holds
 abbrev pub shown_by : Item → List Shown → Item

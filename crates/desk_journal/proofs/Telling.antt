@@ -20,7 +20,7 @@ use Rattle.store_kept.specs.Kept.{BaseTexts, Kept, Origin, body_cmp, origin_of}
 use Rattle.store_kept.specs.Texts.{has_text_kept, is_in_memory, items_asked, items_behind, text_among, text_at_hand, text_before, text_kept}
 use Rattle.store_kept.proofs.Bodies.{tied}
 use Rattle.mail_desk.specs.Held.{Held}
-use Rattle.mail_desk.specs.Timeline.{body_of, item_of, memory_told_by, noted_of, text_in_memory, told_by}
+use Rattle.mail_desk.specs.Timeline.{body_of, item_of, memory_text_by_rev, noted_of, text_in_memory, text_by_rev}
 use Rattle.desk_journal.specs.Stored.{AllNoted, BaseHasNote, HasNote, IsBefore, TextsNoted, is_recorded, item_with, recorded_in}
 use Rattle.desk_journal.specs.Telling.{HoldsHeld, is_readable, noted_in}
 use Rattle.desk_journal.proofs.Noting.{recorded_is}
@@ -83,7 +83,7 @@ found_behind t more body none = find-append (brings body) t more ∙ ap (λ (o :
 -- where the text of a body is in memory, its item is found, and no record has the text
 pub memory_first : (kept : Kept) (t more : List Item) (body : Body) (text : List ℕ) → text_in_memory kept.first t body ≡ Some text → is_recorded kept (t ++ more) body ≡ false
 memory_first kept [] more body text is = absurd (cc is)
-memory_first kept (i ∷ t) more body text is = elim (i.number == body.origin) as (λ b. option_and_then (memory_told_by kept.first body) (cond b (Some i) (item_of t body.origin)) ≡ Some text
+memory_first kept (i ∷ t) more body text is = elim (i.number == body.origin) as (λ b. option_and_then (memory_text_by_rev kept.first body) (cond b (Some i) (item_of t body.origin)) ≡ Some text
     → is_some (option_map_or (recorded_in kept.first) (cond (b && (i.rev == body.rev) && is_some (text_in i.deed)) (Some i) (item_with (t ++ more) body)) (text_before kept.texts body)) ≡ false) [
       | true ↦ λ e. own (is_in_memory kept.first i) refl e
       | false ↦ λ e. memory_first kept t more body text e
@@ -95,7 +95,7 @@ memory_first kept (i ∷ t) more body text is = elim (i.number == body.origin) a
     rev_of true None rest told none = absurd (cc told)
     rev_of false o rest told none = absurd (cc told)
 
-    own : (b : Bool) → is_in_memory kept.first i ≡ b → cond b (told_by body i) None ≡ Some text
+    own : (b : Bool) → is_in_memory kept.first i ≡ b → cond b (text_by_rev body i) None ≡ Some text
         → is_some (option_map_or (recorded_in kept.first) (cond ((i.rev == body.rev) && is_some (text_in i.deed)) (Some i) (item_with (t ++ more) body)) (text_before kept.texts body)) ≡ false
     own true e told = rev_of (i.rev == body.rev) (text_in i.deed) (item_with (t ++ more) body) told (ap (λ b. cond b None (text_in i.deed)) e)
     own false e told = absurd (cc told)
@@ -255,7 +255,7 @@ module _ (kept : Kept) (body : Body) (apart : NumbersApart kept.timeline) (none 
       let brought = found_brings kept.timeline body i found in
       let here : (i.rev == body.rev) ≡ true = let rev : i.rev ≡ body.rev = brought.rev in grind (arith, nat_tests) in
       let told : text_in_memory kept.first kept.timeline body ≡ text_in i.deed =
-      ap (option_and_then (memory_told_by kept.first body)) (number_found kept.timeline body i apart found) ∙ ap (λ b. cond b (told_by body i) None) e ∙ ap (λ b. cond b (text_in i.deed) None) here in
+      ap (option_and_then (memory_text_by_rev kept.first body)) (number_found kept.timeline body i apart found) ∙ ap (λ b. cond b (text_by_rev body i) None) e ∙ ap (λ b. cond b (text_in i.deed) None) here in
       absurd (let wrong : ◌≡◌ {A = Bool} true false = sym brought.text ∙ ap is_some (sym told ∙ none) in cc wrong)
 
   pub kept_recorded : has_text_kept kept body ≡ true → is_recorded kept kept.timeline body ≡ true

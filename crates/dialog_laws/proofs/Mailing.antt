@@ -20,7 +20,7 @@ use Rattle.smtp_session.specs.declared.dialog.Transaction.{Transaction}
 use Rattle.smtp_session.specs.declared.dialog.Transaction.TheVariants.{Idle, Begun, Writing, Due}
 use Rattle.smtp_session.specs.Body.{body_of}
 use Rattle.smtp_session.specs.Recipients.{put_once, is_here}
-use Rattle.smtp_session.specs.Dialog.{DialogTurn, begin, end_text, has_recipient, host_due, obey, opening, receive, settle, told, told_fault, turn, turn_in, write}
+use Rattle.smtp_session.specs.Dialog.{DialogTurn, begin, end_text, has_recipient, host_due, obey, opening, receive, settle, outcome_said, fault_said, turn, turn_in, write}
 use Rattle.smtp_session.specs.Limits.{AsksWithin}
 use Rattle.smtp_session.proofs.Stays.{small_turn, asks_turn}
 use Rattle.verb_bytes.specs.Limits.{IsMail}
@@ -209,12 +209,12 @@ pub turn_mail : (house : House) (conf : Conf) (at : ℕ) (d : Dialog) (line : Sm
 turn_mail house conf at d line from to text host timely h e =
     (subst (λ (out : SmtpOut). AllByRecursion IsDelivery (asked_by out)) e (turn_asks house conf at d line host timely h)).0
 
-fault_asks : (host : List ℕ) (fault : SubmitFault) → AllByRecursion IsDelivery (asked_by (told_fault host fault))
+fault_asks : (host : List ℕ) (fault : SubmitFault) → AllByRecursion IsDelivery (asked_by (fault_said host fault))
 fault_asks host (IsRefused why) = tt
 fault_asks host Disk = tt
 fault_asks host Closed = tt
 
-told_asks : (host : List ℕ) (outcome : Result Item SubmitFault) → AllByRecursion IsDelivery (asked_by (told host outcome))
+told_asks : (host : List ℕ) (outcome : Result Item SubmitFault) → AllByRecursion IsDelivery (asked_by (outcome_said host outcome))
 told_asks host (Ok item) = tt
 told_asks host (Err fault) = fault_asks host fault
 

@@ -141,8 +141,8 @@ impl<L: OpenListener + AsRawFd> Listeners<L> {
     }
 
     /// The seats, and `PORTS`, of which the last wait was told.
-    pub(crate) fn told(&self) -> Iter<'_> {
-        self.readiness.told()
+    pub(crate) fn woken(&self) -> Iter<'_> {
+        self.readiness.woken()
     }
 
     /// The port whose turn it is, if it is that of one.

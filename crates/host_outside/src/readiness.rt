@@ -16,15 +16,15 @@ const MOST_TOLD: usize = 1024;
 #[derive(Drop)]
 pub(crate) struct Readiness {
     poll: Poll,
-    told: Events,
+    woken: Events,
 }
 
 impl Readiness {
     /// Of no sockets yet. Where the system has no such thing to give, this tells why.
     pub(crate) fn open<R: Net>(net: &R, alloc: Global) -> Result<io::Result<Readiness>, NoMemory> {
-        let told = Events::with_capacity(alloc, MOST_TOLD)?;
+        let woken = Events::with_capacity(alloc, MOST_TOLD)?;
         match Poll::new(net) {
-            Ok(poll) => Ok(Ok(Readiness { poll, told })),
+            Ok(poll) => Ok(Ok(Readiness { poll, woken })),
             Err(error) => Ok(Err(error)),
         }
     }
@@ -43,11 +43,11 @@ impl Readiness {
     /// Waits until a socket is told of, for so many milliseconds at most.
     pub(crate) fn wait(&mut self, millis: u64) -> io::Result<()> {
         self.poll
-            .poll(&mut self.told, Some(Duration::from_millis(millis)))
+            .poll(&mut self.woken, Some(Duration::from_millis(millis)))
     }
 
     /// The sockets that the last wait told of. There may be nothing there all the same.
-    pub(crate) fn told(&self) -> Iter<'_> {
-        self.told.iter()
+    pub(crate) fn woken(&self) -> Iter<'_> {
+        self.woken.iter()
     }
 }

@@ -300,7 +300,7 @@ impl<R: Net + Clock + Eprint> Sockets<R> {
             return Ok(());
         };
         listeners.wait(millis)?;
-        for event in listeners.told() {
+        for event in listeners.woken() {
             let place = event.token().0;
             if place < SEATS {
                 self.queue.wake(place);
@@ -520,7 +520,7 @@ impl<R: Net + Clock + Eprint> Sockets<R> {
     {
         let number = number_of(place)?;
         let received = self.visit(place, now)?;
-        let what = self.told(received)?;
+        let what = self.what_came(received)?;
         Some(self.event(number, what))
     }
 
@@ -550,7 +550,7 @@ impl<R: Net + Clock + Eprint> Sockets<R> {
     }
 
     /// What an event tells of what came into the buffer.
-    fn told(&mut self, received: Received) -> Option<What>
+    fn what_came(&mut self, received: Received) -> Option<What>
         ensures told { result ≡ told_of received self.old.spare.items }
         ensures others { self.new ≡ record self.old { spare = self.new.spare } }
     {

@@ -2,7 +2,7 @@
 use Rattle.std.proofs.Common.{◌≡◌, ℕ, ◌+◌, ◌<◌, ◌≤◌, Bool, true, false, cond, List, [], ◌∷◌, ◌++◌, length, take, nat_lt, Option, None, Some, refl, ap, sym, ◌∙◌, arith}
 use Rattle.std.proofs.lemmas.List.{append_assoc, append-nil, length-append, take_at}
 use Rattle.std.proofs.lemmas.Bool.Decides.{Decides-ltb, nat_tests}
-use Rattle.imap_stream.specs.Commands.{Heard, end_of, last_byte, heard, saying, before, nothing, closed, told, bad, ended, marked_or_finished, in_line, with_byte, with_literal, tag_of_command, first_line, awaits_after}
+use Rattle.imap_stream.specs.Commands.{Heard, end_of, last_byte, heard, saying, before, nothing, closed, says_next, bad, ended, marked_or_finished, in_line, with_byte, with_literal, tag_of_command, first_line, awaits_after}
 use Rattle.imap_stream.specs.LiteralMarks.{tag_of, mark_of}
 use Rattle.imap_stream.specs.Reading.{IsBegun}
 use Rattle.imap_stream.specs.declared.begun.Begun.{Begun}
@@ -42,7 +42,7 @@ heard-saying p h (b ∷ s) =
     ap (λ k. heard k s) (saying_twice p h.said (with_byte h.awaits h.begun h.rest b)) ∙ heard-saying p (saying h.said (with_byte h.awaits h.begun h.rest b)) s
 
 -- what was said of a line, and then the rest
-pub heard_told : (next : Next) (begun : Begun) (s : List ℕ) → heard (told next begun) s ≡ saying (next ∷ []) (heard (before begun (awaits_after next)) s)
+pub heard_told : (next : Next) (begun : Begun) (s : List ℕ) → heard (says_next next begun) s ≡ saying (next ∷ []) (heard (before begun (awaits_after next)) s)
 heard_told next begun s = heard-saying (next ∷ []) (before begun (awaits_after next)) s
 
 -- this has come of what a command goes on with

@@ -1,7 +1,7 @@
 -- What a reader has seen, before and after it waits, takes a literal or ends a line.
 use Rattle.std.proofs.Common.{◌≡◌, ℕ, ◌+◌, ◌-◌, ◌<◌, ◌≤◌, Bool, true, false, cond, List, [], ◌∷◌, ◌++◌, length, take, drop, nat_lt, nat_le, Option, None, Some, refl, ap, sym, ◌∙◌, arith, zero, suc, subst}
 use Rattle.std.proofs.lemmas.List.{append_assoc, length-append, length-take, length-drop, take_at, drop-drop}
-use Rattle.imap_stream.specs.Commands.{Heard, end_of, last_byte, heard, saying, before, nothing, closed, told, bad, asked, ended, marked_or_finished, with_literal, tag_of_command, first_line, awaited, awaits_after, TakesNext}
+use Rattle.imap_stream.specs.Commands.{Heard, end_of, last_byte, heard, saying, before, nothing, closed, says_next, bad, asked, ended, marked_or_finished, with_literal, tag_of_command, first_line, awaited, awaits_after, TakesNext}
 use Rattle.imap_stream.specs.Reading.{IsBegun, IsClear, IsSound, IsWithin, IsOpen, EndsAt, Waits, GivesUp, Settles, seen}
 use Rattle.imap_stream.specs.declared.begun.Begun.{Begun}
 use Rattle.imap_stream.specs.declared.begun.Awaits.{Awaits}
@@ -195,7 +195,7 @@ says_either : (t : Bool) (h k : Heard) → SaysMore h → SaysMore k → SaysMor
 says_either true h k a b = a
 says_either false h k a b = b
 
-says_bad : (line : BadLine) (begun : Begun) → SaysMore (told (Bad line) begun)
+says_bad : (line : BadLine) (begun : Begun) → SaysMore (says_next (Bad line) begun)
 says_bad line begun e = cc
 
 says_of_mark : (begun : Begun) (line : List ℕ) (mark : Option Mark) → SaysMore (marked_or_finished begun line mark)
@@ -223,7 +223,7 @@ heard_line begun awaits u place h ends e =
 
 -- a line of a command ends
 pub end_takes : (begun now : Begun) (awaits : Awaits) (bytes : List ℕ) (given place : ℕ) (next : Next) → IsBegun begun → EndsAt given bytes place
-    → ended begun (take place (drop given bytes)) ≡ told next now → awaits ≡ awaits_after next
+    → ended begun (take place (drop given bytes)) ≡ says_next next now → awaits ≡ awaits_after next
     → TakesNext (heard (before begun Line) (drop given bytes)) next (heard (before now awaits) (drop (given + place + 2) bytes))
 end_takes begun now awaits bytes given place next is end e after =
     let u = drop given bytes in
@@ -232,11 +232,11 @@ end_takes begun now awaits bytes given place next is end e after =
     let some : next ≡ NotYet → ⊥ = λ none. says_more begun line (ap (λ h. h.said) e ∙ ap (λ n. n ∷ []) none) in
     let far : drop (place + 2) u ≡ drop (given + place + 2) bytes = drop-drop (place + 2) given bytes ∙ ap (λ n. drop n bytes) (let sum : given + (place + 2) ≡ given + place + 2 = omega arith in sum) in
     takes_said next (heard (before begun Line) u) (heard (before now awaits) (drop (given + place + 2) bytes)) some
-    (heard_line begun Line u place (told next now) here (line_closes begun line is here.parts.open_line ∙ e) ∙ heard_told next now (drop (place + 2) u)
+    (heard_line begun Line u place (says_next next now) here (line_closes begun line is here.parts.open_line ∙ e) ∙ heard_told next now (drop (place + 2) u)
     ∙ ap (λ a. saying (next ∷ []) (heard (before now a) (drop (place + 2) u))) (sym after) ∙ ap (λ l. saying (next ∷ []) (heard (before now awaits) l)) far)
 
 pub end_sound : (begun now : Begun) (awaits : Awaits) (bytes line : List ℕ) (given place : ℕ) (next : Next) → IsWithin Line begun → EndsAt given bytes place
-    → ended begun line ≡ told next now → awaits ≡ awaits_after next → IsSound (record { begun = now; awaits = awaits; given = given + place + 2; scanned = 0 }) bytes
+    → ended begun line ≡ says_next next now → awaits ≡ awaits_after next → IsSound (record { begun = now; awaits = awaits; given = given + place + 2; scanned = 0 }) bytes
 end_sound begun now awaits bytes line given place next within end e after =
     let new = ended_within begun line next now within e in
     record {

@@ -6,7 +6,7 @@ use Rattle.std.proofs.lemmas.Bool.Decides.{Decides-ltb}
 use Rattle.std.proofs.lemmas.List.{append_assoc, append-nil, length-append, length-map, map-append, take_at}
 use Rattle.std.proofs.lemmas.List.Sums.{sum_by_push, sum_by-cons}
 use Rattle.imap_stream.specs.LiteralMarks.{tag_of, mark_of, mark_at}
-use Rattle.imap_stream.specs.Commands.{end_of, first_line, nothing, told, closed, bad, ended, with_literal, saying, heard, before, said_of}
+use Rattle.imap_stream.specs.Commands.{end_of, first_line, nothing, says_next, closed, bad, ended, with_literal, saying, heard, before, said_of}
 use Rattle.imap_stream.specs.Reading.{IsBegun}
 use Rattle.imap_stream.specs.Streams.{Part, Entry, Open, Line as OpenLine, Octets, Rest, marked_line, ended_line, part_bytes, entry_bytes, open_bytes, rest_bytes, octets_of, IsLine, Announces, HasMark, IsPart, AreParts, Ends, IsEntry, IsOpen, IsRest, Splits, told_part, first_of, told_end, told_entry, told_open, told_of, IsReading}
 use Rattle.imap_stream.specs.declared.begun.Begun.{Begun}
@@ -64,7 +64,7 @@ few_literals parts few = by_test (nat_le 8 (length (map (λ (p : Part). p.litera
 
 -- a line ends whose literal is invited
 ended_asks : (parts : List Part) (text digits : List ℕ) (n : ℕ) → Announces text digits n → n ≤ 1048576 → length parts < 8 → octets_of parts + length (marked_line text digits) ≤ 65536
-    → ended (begun_of parts) (marked_line text digits) ≡ told (Ask n) (line_begun parts text digits)
+    → ended (begun_of parts) (marked_line text digits) ≡ says_next (Ask n) (line_begun parts text digits)
 ended_asks parts text digits n a small few short =
     let line = marked_line text digits in
     let size = a.size in
@@ -112,7 +112,7 @@ first_same : (parts : List Part) (line : List ℕ) → first_line (map (λ (p : 
 first_same [] line = refl
 first_same (p ∷ parts) line = refl
 
-bad_same : (parts : List Part) (line : List ℕ) (why : LineFault) → closed (bad (begun_of parts) line why) ≡ told (told_end parts line (Some why)) nothing
+bad_same : (parts : List Part) (line : List ℕ) (why : LineFault) → closed (bad (begun_of parts) line why) ≡ says_next (told_end parts line (Some why)) nothing
 bad_same parts line why = ap (λ l. closed (Bad (record { tag = tag_of l; why = why }))) (first_same parts line)
 
 -- the mark of a line, if it has one
@@ -138,7 +138,7 @@ mark_is line n h = ap mark_of h.is ∙ mark_of-marked h.text h.digits h.announce
 
 -- a line ends a command, or is a bad line
 ended_closes : (parts : List Part) (line : List ℕ) (fault : Option LineFault) → IsLine line → Ends parts line fault
-    → ended (begun_of parts) line ≡ told (told_end parts line fault) nothing
+    → ended (begun_of parts) line ≡ says_next (told_end parts line fault) nothing
 ended_closes parts line None one_line e = rw (ltb-false 65536 (octets_of parts + length line) e.0, no_mark line one_line e.1) refl
 ended_closes parts line (Some Long) one_line e = rw (ltb-true 65536 (octets_of parts + length line) e) (bad_same parts line Long)
 ended_closes parts line (Some (TooLarge n)) one_line e =
@@ -156,7 +156,7 @@ last_told parts line fault s short one_line e =
     ∙ ap (λ h. heard h s) (line_closes (begun_of parts) line (begun_of-is parts short) (end_of-cr line one_line) ∙ ended_closes parts line fault one_line e))
     ∙ by_fault fault
   where
-    by_fault : (why : Option LineFault) → (heard (told (told_end parts line why) nothing) s).said ≡ told_end parts line why ∷ (heard (before nothing Line) s).said
+    by_fault : (why : Option LineFault) → (heard (says_next (told_end parts line why) nothing) s).said ≡ told_end parts line why ∷ (heard (before nothing Line) s).said
     by_fault None = ap (λ h. h.said) (heard_told (told_end parts line None) nothing s)
     by_fault (Some why) = ap (λ h. h.said) (heard_told (told_end parts line (Some why)) nothing s)
 

@@ -1,6 +1,6 @@
 -- Where memory may be wanted for what comes next, and what was searched where nothing has come.
 use Rattle.std.proofs.Common.{◌≡◌, ◌≢◌, ℕ, ◌+◌, ◌-◌, ◌<◌, Bool, true, false, cond, List, [], ◌∷◌, length, take, drop, nat_lt, nat_le, Option, None, Some, Result, Ok, Err, OnErr, refl, ap, sym, ◌∙◌, arith, subst, inr}
-use Rattle.imap_stream.specs.Commands.{Heard, last_byte, heard, saying, before, closed, told, bad, asked, ended, marked_or_finished, with_literal, tag_of_command, awaited, awaits_after, KeepsTag, WantsMemory}
+use Rattle.imap_stream.specs.Commands.{Heard, last_byte, heard, saying, before, closed, says_next, bad, asked, ended, marked_or_finished, with_literal, tag_of_command, awaited, awaits_after, KeepsTag, WantsMemory}
 use Rattle.imap_stream.specs.Reading.{IsBegun, IsSound, IsOpen, EndsAt, Waits, GivesUp, Settles, seen}
 use Rattle.imap_stream.specs.declared.begun.Begun.{Begun}
 use Rattle.imap_stream.specs.declared.begun.Awaits.{Awaits}
@@ -35,7 +35,7 @@ on_err (Err e) x = x
 
 -- one thing is said
 abbrev SaysOne : Heard → Type 0
-SaysOne h = (next : Next) × (begun : Begun) × (h ≡ told next begun)
+SaysOne h = (next : Next) × (begun : Begun) × (h ≡ says_next next begun)
 
 either : (t : Bool) (h k : Heard) → SaysOne h → SaysOne k → SaysOne (cond t h k)
 either true h k a b = a
@@ -67,7 +67,7 @@ line_said begun bytes given place is end = by_one (says_one begun line)
     by_one (next, now, e) =
         let here = ends u place end.first in
         some_said (heard (before begun Line) u) (heard (before now (awaits_after next)) (drop (place + 2) u)) next
-        (heard_line begun Line u place (told next now) here (line_closes begun line is here.parts.open_line ∙ e) ∙ heard_told next now (drop (place + 2) u))
+        (heard_line begun Line u place (says_next next now) here (line_closes begun line is here.parts.open_line ∙ e) ∙ heard_told next now (drop (place + 2) u))
 
 pub end_said : (r : Reader) (bytes : List ℕ) (start place : ℕ) → IsSound r bytes → start ≡ r.given + awaited r.awaits → EndsAt start bytes place → (seen r bytes).said ≢ []
 end_said r bytes start place sound begins end = by_awaits r.awaits refl

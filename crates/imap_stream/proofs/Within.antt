@@ -4,7 +4,7 @@ use Rattle.std.proofs.lemmas.List.{length-append, length-take}
 use Rattle.std.proofs.lemmas.List.Sums.{sum_by_push}
 use Rattle.std.proofs.lemmas.Bool.{leb-false}
 use Rattle.std.proofs.lemmas.Bool.Decides.{Decides-ltb}
-use Rattle.imap_stream.specs.Commands.{Heard, nothing, closed, told, bad, asked, ended, marked_or_finished, with_literal, awaits_after}
+use Rattle.imap_stream.specs.Commands.{Heard, nothing, closed, says_next, bad, asked, ended, marked_or_finished, with_literal, awaits_after}
 use Rattle.imap_stream.specs.Holding.{octets_in, tag_octets}
 use Rattle.imap_stream.specs.LiteralMarks.{is_tag, tag_of, before_space, mark_of}
 use Rattle.imap_stream.specs.Reading.{IsBegun, IsWithin, parts_of}
@@ -96,7 +96,7 @@ marked_then begun line (Some mark) w short =
     either (nat_le 8 (length begun.literals)) (closed (bad begun line Many)) (asked begun line mark) (closed_then (bad begun line Many) refl) (λ few.
     asked_then begun line mark w short (ltb-not 1048576 mark.size small) (leb-false 8 (length begun.literals) few)))
 
-pub ended_within : (begun : Begun) (line : List ℕ) (next : Next) (new : Begun) → IsWithin Line begun → ended begun line ≡ told next new → IsWithin (awaits_after next) new × IsBegun new
+pub ended_within : (begun : Begun) (line : List ℕ) (next : Next) (new : Begun) → IsWithin Line begun → ended begun line ≡ says_next next new → IsWithin (awaits_after next) new × IsBegun new
 ended_within begun line next new w e =
     subst Then e (either (nat_lt 65536 (begun.octets + length line)) (closed (bad begun line Long)) (marked_or_finished begun line (mark_of line)) (closed_then (bad begun line Long) refl)
     (λ short. marked_then begun line (mark_of line) w (ltb-not 65536 (begun.octets + length line) short)))

@@ -64,12 +64,12 @@ awaits_after (Bad line) = Line
 awaits_after NotYet = Line
 
 -- a line has ended, and this is said of it
-abbrev pub told : Next → Begun → Heard
-told next begun = record { said = next ∷ []; begun = begun; awaits = awaits_after next; rest = [] }
+abbrev pub says_next : Next → Begun → Heard
+says_next next begun = record { said = next ∷ []; begun = begun; awaits = awaits_after next; rest = [] }
 
 -- the command has ended
 abbrev pub closed : Next → Heard
-closed next = told next nothing
+closed next = says_next next nothing
 
 -- with a literal after its last line
 abbrev pub with_literal : Begun → List ℕ → Begun
@@ -77,7 +77,7 @@ with_literal begun literal = record { lines = begun.lines; literals = begun.lite
 
 -- a literal is invited
 abbrev pub asked : Begun → List ℕ → Mark → Heard
-asked begun line mark = told (Ask mark.size) (record { lines = begun.lines ++ take mark.place line ∷ []; literals = begun.literals; octets = begun.octets + length line })
+asked begun line mark = says_next (Ask mark.size) (record { lines = begun.lines ++ take mark.place line ∷ []; literals = begun.literals; octets = begun.octets + length line })
 
 -- a line with a literal mark has ended
 abbrev pub marked : Begun → List ℕ → Mark → Heard

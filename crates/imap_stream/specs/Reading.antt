@@ -40,7 +40,7 @@ abbrev pub IsSearched : Reader → List ℕ → Type 0
 IsSearched reader bytes = reader.scanned ≡ length (drop (awaited reader.awaits) (drop reader.given bytes)) - 1
 
 -- what is read and still held is no more than half of all
-pub record IsLean (reader : Reader) (bytes : List ℕ) : Type 0 where
+pub record KeepsNoMore (reader : Reader) (bytes : List ℕ) : Type 0 where
   pub sound : IsSound reader bytes
   pub half : reader.given + reader.given ≤ length bytes
 

@@ -1,6 +1,6 @@
 //! What is read of a command.
 ghost use Rattle.std.specs.Prelude.{◌≡◌, ◌≢◌, ◌+◌, ◌≤◌, length, None, IfOk, OnOk, OnErr};
-ghost use Rattle.imap_stream.specs.Commands.{first_line, tag_of_command, nothing, with_literal, awaited, ended, marked, told};
+ghost use Rattle.imap_stream.specs.Commands.{first_line, tag_of_command, nothing, with_literal, awaited, ended, marked, says_next};
 ghost use Rattle.imap_stream.specs.Commands as spec;
 
 use crate::marks::{Mark, read_mark, read_tag};
@@ -90,7 +90,7 @@ pub fn command_tag(alloc: Global, begun: &Begun, line: &[u8]) -> Result<Option<N
 
 /// A line that ends the command.
 fn bad_line(alloc: Global, begun: &mut Begun, line: &[u8], why: LineFault) -> Result<Next, NoMemory>
-    ensures ok { IfOk result (λ next. spec.closed (spec.bad begun.old line.now why) ≡ told next begun.new) }
+    ensures ok { IfOk result (λ next. spec.closed (spec.bad begun.old line.now why) ≡ says_next next begun.new) }
     ensures err { OnErr result (begun.new ≡ begun.old) }
 {
     let tag = command_tag(alloc, begun, line)?;
@@ -103,7 +103,7 @@ fn ask(alloc: Global, begun: &mut Begun, line: &[u8], mark: Mark) -> Result<Next
     requires place { mark.place ≤ length line.now }
     requires size { mark.size ≤ 1048576 }
     requires most { begun.old.octets + length line.now ≤ 65536 }
-    ensures ok { IfOk result (λ next. spec.asked begun.old line.now mark ≡ told next begun.new) }
+    ensures ok { IfOk result (λ next. spec.asked begun.old line.now mark ≡ says_next next begun.new) }
     ensures err { OnErr result (begun.new ≡ begun.old) }
 {
     let kept = Text::of(alloc, &line[..mark.place])?;
@@ -118,7 +118,7 @@ fn ask(alloc: Global, begun: &mut Begun, line: &[u8], mark: Mark) -> Result<Next
 fn end_marked(alloc: Global, begun: &mut Begun, line: &[u8], mark: Mark) -> Result<Next, NoMemory>
     requires place { mark.place ≤ length line.now }
     requires most { begun.old.octets + length line.now ≤ 65536 }
-    ensures ok { IfOk result (λ next. marked begun.old line.now mark ≡ told next begun.new) }
+    ensures ok { IfOk result (λ next. marked begun.old line.now mark ≡ says_next next begun.new) }
     ensures err { OnErr result (begun.new ≡ begun.old) }
 {
     if mark.size > MOST_LITERAL as u64 {
@@ -132,7 +132,7 @@ fn end_marked(alloc: Global, begun: &mut Begun, line: &[u8], mark: Mark) -> Resu
 
 /// The last line of a command.
 fn whole(alloc: Global, begun: &mut Begun, line: &[u8]) -> Result<Next, NoMemory>
-    ensures ok { IfOk result (λ next. spec.finished begun.old line.now ≡ told next begun.new) }
+    ensures ok { IfOk result (λ next. spec.finished begun.old line.now ≡ says_next next begun.new) }
     ensures err { OnErr result (begun.new ≡ begun.old) }
 {
     let line = Text::of(alloc, line)?;
@@ -146,7 +146,7 @@ fn whole(alloc: Global, begun: &mut Begun, line: &[u8]) -> Result<Next, NoMemory
 
 pub fn end_line(alloc: Global, begun: &mut Begun, line: &[u8]) -> Result<Next, NoMemory>
     requires { begun.old.octets ≤ 65536 }
-    ensures ok { IfOk result (λ next. ended begun.old line.now ≡ told next begun.new) }
+    ensures ok { IfOk result (λ next. ended begun.old line.now ≡ says_next next begun.new) }
     ensures err { OnErr result (begun.new ≡ begun.old) }
 {
     if line.len() > MOST_OCTETS - begun.octets {

@@ -2,7 +2,7 @@
 ghost use Rattle.std.specs.Prelude.{◌≡◌, ◌+◌, ◌≤◌, ◌++◌, [], true, false, Ok, length, drop, min, IfOk, OnOk, OnErr};
 ghost use Rattle.imap_stream.specs.Commands.{heard, before, nothing, TakesNext, WantsMemory};
 ghost use Rattle.imap_stream.specs.Holding.{held_in};
-ghost use Rattle.imap_stream.specs.Reading.{IsSound, IsLean, parts_of, seen};
+ghost use Rattle.imap_stream.specs.Reading.{IsSound, KeepsNoMore, parts_of, seen};
 ghost use Rattle.imap_stream.specs.declared.begun.Awaits.TheVariants.{Line};
 
 use crate::Next;
@@ -23,7 +23,7 @@ pub struct Buffer {
 
 impl Model for Buffer {
     ghost use Rattle.std.specs.Prelude.{length, ◌≡◌};
-    ghost use Rattle.imap_stream.specs.Reading.{Buffered, IsLean, parts_of, same_fields, seen};
+    ghost use Rattle.imap_stream.specs.Reading.{Buffered, KeepsNoMore, parts_of, same_fields, seen};
 
     ghost Value = { Buffered };
 
@@ -31,7 +31,7 @@ impl Model for Buffer {
 
     ghost view = { λ b. record { heard = seen b.reader b.bytes.items; parts = parts_of b.reader; bytes = length b.bytes.items } };
 
-    ghost invariant = { λ b. IsLean b.reader b.bytes.items × ((other : Inside) → b ≡ record other { reader = same_fields b.reader other.reader; bytes = b.bytes }) };
+    ghost invariant = { λ b. KeepsNoMore b.reader b.bytes.items × ((other : Inside) → b ≡ record other { reader = same_fields b.reader other.reader; bytes = b.bytes }) };
 }
 
 impl Buffer {
@@ -135,7 +135,7 @@ fn push_bytes(bytes: &mut Vec<u8>, more: &[u8]) -> Result<(), NoMemory>
 /// Takes the bytes away that are read. Where nothing whole is there, the others came behind the last that was, and so each is moved once at most for it.
 fn drop_given(reader: &mut Reader, bytes: &mut Vec<u8>)
     requires { IsSound reader.old bytes.old.items }
-    ensures lean { IsLean reader.new bytes.new.items }
+    ensures keeps { KeepsNoMore reader.new bytes.new.items }
     ensures same { seen reader.new bytes.new.items ≡ seen reader.old bytes.old.items }
     ensures parts { parts_of reader.new ≡ parts_of reader.old }
     ensures all { length bytes.new.items ≡ length (drop reader.old.given bytes.old.items) }
@@ -148,7 +148,7 @@ fn drop_given(reader: &mut Reader, bytes: &mut Vec<u8>)
 /// Takes the bytes away that are read, where they are more than the others, so that each byte is moved once at most for one that was read.
 fn compact(reader: &mut Reader, bytes: &mut Vec<u8>)
     requires { IsSound reader.old bytes.old.items }
-    ensures lean { IsLean reader.new bytes.new.items }
+    ensures keeps { KeepsNoMore reader.new bytes.new.items }
     ensures same { seen reader.new bytes.new.items ≡ seen reader.old bytes.old.items }
     ensures fewer { length bytes.new.items ≤ length bytes.old.items }
 {

@@ -20,7 +20,7 @@ use Rattle.verb_bytes.specs.declared.journal.CycleAsk.{CycleAsk}
 use Rattle.store_kept.specs.Kept.{Kept, Reports, key_cmp, store_of, with_report}
 use Rattle.repair_desk.specs.Renewals.{renewed, stamp_after}
 use Rattle.repair_desk.specs.Repairs.{dropped, is_among, missing, numbers_of, replaced, unmatched}
-use Rattle.cycle_rules.specs.Judging.{judged, reason_by, told}
+use Rattle.cycle_rules.specs.Judging.{judged, reason_by, with_told}
 use Rattle.cycle_rules.specs.Repairing.{Repair, compared_in, led_in, notice_items, renewed_by, report_in, stamps_in, told_in}
 use Rattle.kept_laws.proofs.Fits.{AreRows, Fits, FitsBroken, FitsKeyed, FitsReport, FitsRow, FitsStamp, IsFour}
 use Rattle.kept_laws.proofs.Deeds.{deed_fits}
@@ -28,7 +28,7 @@ use Rattle.kept_laws.proofs.Lists.{all_filtered, all_joined, all_mapped}
 
 -- ---- the items that are told of
 
-told_fits : (i : Item) → Fits i → (reason : Option Reason) (list : List BrokenItem) → AllByRecursion FitsBroken list → AllByRecursion FitsBroken (told i reason list)
+told_fits : (i : Item) → Fits i → (reason : Option Reason) (list : List BrokenItem) → AllByRecursion FitsBroken list → AllByRecursion FitsBroken (with_told i reason list)
 told_fits i fits None list h = h
 told_fits i fits (Some reason) list h = by i.by
   where
@@ -48,7 +48,7 @@ judged_fits drops [] now all = tt
 judged_fits drops (i ∷ items) now all = by (is_among drops i.number) (judged_fits drops items now all.1) (judged_fits drops items (drop 1 now) all.1)
   where
     by : (b : Bool) → AllByRecursion FitsBroken (judged drops items now) → AllByRecursion FitsBroken (judged drops items (drop 1 now))
-        → AllByRecursion FitsBroken (cond b (told i (Some Withdrawn) (judged drops items now)) (told i (reason_by i now) (judged drops items (drop 1 now))))
+        → AllByRecursion FitsBroken (cond b (with_told i (Some Withdrawn) (judged drops items now)) (with_told i (reason_by i now) (judged drops items (drop 1 now))))
     by true one two = told_fits i all.0 (Some Withdrawn) (judged drops items now) one
     by false one two = told_fits i all.0 (reason_by i now) (judged drops items (drop 1 now)) two
 

@@ -20,7 +20,7 @@ use Rattle.paradox.specs.declared.reports.BrokenItem.{BrokenItem}
 use Rattle.paradox.specs.declared.words.Reason.TheVariants.{Withdrawn}
 use Rattle.repair_desk.specs.Repairs.{inserted, is_among}
 use Rattle.cycle_rules.specs.Cycles.{notice_items}
-use Rattle.cycle_rules.specs.Judging.{judged, reason_by, shown_after, shown_by, told}
+use Rattle.cycle_rules.specs.Judging.{judged, reason_by, shown_after, shown_by, with_told}
 
 -- ---- runs
 
@@ -78,8 +78,8 @@ length_acts number at (act ∷ acts) = ap suc (length_acts (number + 1) at acts)
 pub judged_same : (a b : List ℕ) → ((n : ℕ) → is_among a n ≡ is_among b n) → (t : List Item) (now : List Shown) → judged a t now ≡ judged b t now
 judged_same a b same [] now = refl
 judged_same a b same (i ∷ t) now =
-    ap (λ d. cond d (told i (Some Withdrawn) (judged a t now)) (told i (reason_by i now) (judged a t (drop 1 now)))) (same i.number)
-    ∙ ap₂ (λ (x y : List BrokenItem). cond (is_among b i.number) (told i (Some Withdrawn) x) (told i (reason_by i now) y)) (judged_same a b same t now) (judged_same a b same t (drop 1 now))
+    ap (λ d. cond d (with_told i (Some Withdrawn) (judged a t now)) (with_told i (reason_by i now) (judged a t (drop 1 now)))) (same i.number)
+    ∙ ap₂ (λ (x y : List BrokenItem). cond (is_among b i.number) (with_told i (Some Withdrawn) x) (with_told i (reason_by i now) y)) (judged_same a b same t now) (judged_same a b same t (drop 1 now))
 
 -- ---- notices
 

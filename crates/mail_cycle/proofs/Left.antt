@@ -35,7 +35,7 @@ use Rattle.cycle_rules.specs.Repairing.{Cycled, Repair, compared_in, front_in, k
 use Rattle.mail_cycle.specs.Comparing.{broken_by, compared_from, reached_from, reworked_by, reworked_from, stamps_by, timeline_by, timeline_from, told_by}
 use Rattle.mail_cycle.specs.Leaving.{GoesOn, GoesOnAt}
 use Rattle.mail_cycle.specs.Tasks.{GoesWith}
-use Rattle.cycle_rules.specs.Judging.{judged, shown_after, shown_by, told as tell}
+use Rattle.cycle_rules.specs.Judging.{judged, shown_after, shown_by, with_told}
 use Rattle.store_kept.specs.Bases.{HasBase, IsNew, StandsOn}
 use Rattle.store_kept.specs.Kept.{Kept, origin_of, store_of}
 use Rattle.stored_items.specs.Stored.{AllHeard}
@@ -451,7 +451,7 @@ as_before s at ask place drops replaces inserts =
 -- items that show what they showed
 still_shown : (t : List Item) → judged [] t (map (λ (i : Item). i.shown) t) ≡ []
 still_shown [] = refl
-still_shown (i ∷ t) = ap (λ (reason : Option Reason). tell i reason (judged [] t (map (λ (j : Item). j.shown) t))) (holds (looks_at_texts i.deed) i.shown) ∙ still_shown t
+still_shown (i ∷ t) = ap (λ (reason : Option Reason). with_told i reason (judged [] t (map (λ (j : Item). j.shown) t))) (holds (looks_at_texts i.deed) i.shown) ∙ still_shown t
 
 pub shown_still : (s : Kept) (at : ℕ) (ask : CycleAsk) (place : ℕ) → ask.drops ≡ [] → ask.replaces ≡ [] → ask.inserts ≡ []
     → drop place (answers s.base s.timeline) ≡ map (λ (i : Item). i.shown) (drop place s.timeline) → broken_at s at ask place ≡ []

@@ -22,14 +22,14 @@ use Rattle.paradox.specs.declared.words.Verb.{Verb}
 use Rattle.repair_desk.specs.Repairs.{inserted, is_among, is_dropped, kept, numbers_of, repaired}
 use Rattle.repair_desk.proofs.Everywhere.{weaker}
 use Rattle.cycle_rules.specs.Cycles.{broken_at, compared_at, front_of, kept_at, repaired_items, timeline_at, told_at}
-use Rattle.cycle_rules.specs.Judging.{judged, reason_by, shown_after, shown_by, told}
+use Rattle.cycle_rules.specs.Judging.{judged, reason_by, shown_after, shown_by, with_told}
 use Rattle.mail_cycle.specs.Places.{items_before, own_answer, reason_at, shown_at, telling_at, tellings}
 use Rattle.mail_cycle.proofs.Cycled.{drop_more, length_acts, length_map}
 
 -- ---- what is told of one item
 
 -- of an item is told, if anything, under its number
-numbered : (P : ℕ → Type 0) (i : Item) (reason : Option Reason) (list : List BrokenItem) → P i.number → AllByRecursion (λ (b : BrokenItem). P b.number) list → AllByRecursion (λ (b : BrokenItem). P b.number) (told i reason list)
+numbered : (P : ℕ → Type 0) (i : Item) (reason : Option Reason) (list : List BrokenItem) → P i.number → AllByRecursion (λ (b : BrokenItem). P b.number) list → AllByRecursion (λ (b : BrokenItem). P b.number) (with_told i reason list)
 numbered P i None list here rest = rest
 numbered P i (Some reason) list here rest = by i.by (verb_of i.deed)
   where
@@ -42,7 +42,7 @@ numbered P i (Some reason) list here rest = by i.by (verb_of i.deed)
 
 judged_numbers : (P : ℕ → Type 0) (drops : List ℕ) (t : List Item) (now : List Shown) → AllByRecursion (λ (j : Item). P j.number) t → AllByRecursion (λ (b : BrokenItem). P b.number) (judged drops t now)
 judged_numbers P drops [] now all = tt
-judged_numbers P drops (i ∷ t) now all = elim (is_among drops i.number) as (λ b. AllByRecursion (λ (x : BrokenItem). P x.number) (cond b (told i (Some Withdrawn) (judged drops t now)) (told i (reason_by i now) (judged drops t (drop 1 now))))) [
+judged_numbers P drops (i ∷ t) now all = elim (is_among drops i.number) as (λ b. AllByRecursion (λ (x : BrokenItem). P x.number) (cond b (with_told i (Some Withdrawn) (judged drops t now)) (with_told i (reason_by i now) (judged drops t (drop 1 now))))) [
   | true ↦ numbered P i (Some Withdrawn) (judged drops t now) all.0 (judged_numbers P drops t now all.1)
   | false ↦ numbered P i (reason_by i now) (judged drops t (drop 1 now)) all.0 (judged_numbers P drops t (drop 1 now) all.1)
 ]
@@ -63,7 +63,7 @@ under_none n (b ∷ list) all = by (b.number == n) refl (under_none n list all.1
     by false differs none = none
 
 -- what is told of another item stands before it
-passed : (n : ℕ) (i : Item) (reason : Option Reason) (list : List BrokenItem) → (i.number == n) ≡ false → under n (told i reason list) ≡ under n list
+passed : (n : ℕ) (i : Item) (reason : Option Reason) (list : List BrokenItem) → (i.number == n) ≡ false → under n (with_told i reason list) ≡ under n list
 passed n i None list differs = refl
 passed n i (Some reason) list differs = by i.by (verb_of i.deed)
   where
@@ -73,7 +73,7 @@ passed n i (Some reason) list differs = by i.by (verb_of i.deed)
     by (Some u) None = refl
     by (Some u) (Some v) = ap (λ b. cond b (Some (record { number = i.number; user = u; verb = v; mailbox = mailbox_in i.deed; reason = reason })) (under n list)) differs
 
-met : (i : Item) (reason : Option Reason) (list : List BrokenItem) → under i.number list ≡ None → under i.number (told i reason list) ≡ option_and_then (told_of i) reason
+met : (i : Item) (reason : Option Reason) (list : List BrokenItem) → under i.number list ≡ None → under i.number (with_told i reason list) ≡ option_and_then (told_of i) reason
 met i None list none = none
 met i (Some reason) list none = by i.by (verb_of i.deed)
   where
@@ -104,7 +104,7 @@ staying drops t = filter (λ (j : Item). not (is_among drops j.number)) t
 
 here : (drops : List ℕ) (i : Item) (later : List Item) (now : List Shown) → AllByRecursion (λ (j : Item). i.number ≢ j.number) later
     → under i.number (judged drops (i ∷ later) now) ≡ option_and_then (told_of i) (cond (is_among drops i.number) (Some Withdrawn) (reason_by i now))
-here drops i later now apart = elim (is_among drops i.number) as (λ b. under i.number (cond b (told i (Some Withdrawn) (judged drops later now)) (told i (reason_by i now) (judged drops later (drop 1 now))))
+here drops i later now apart = elim (is_among drops i.number) as (λ b. under i.number (cond b (with_told i (Some Withdrawn) (judged drops later now)) (with_told i (reason_by i now) (judged drops later (drop 1 now))))
     ≡ option_and_then (told_of i) (cond b (Some Withdrawn) (reason_by i now))) [
       | true ↦ met i (Some Withdrawn) (judged drops later now) (under_none i.number (judged drops later now) (judged_numbers (λ n. i.number ≢ n) drops later now apart))
       | false ↦ met i (reason_by i now) (judged drops later (drop 1 now)) (under_none i.number (judged drops later (drop 1 now)) (judged_numbers (λ n. i.number ≢ n) drops later (drop 1 now) apart))
@@ -120,7 +120,7 @@ pub judged_alone : (drops : List ℕ) (earlier : List Item) (i : Item) (later : 
 judged_alone drops [] i later now apart = here drops i later now apart.0
 judged_alone drops (j ∷ e) i later now apart =
     let differs : (j.number == i.number) ≡ false = differ j.number i.number (last_differs e i later j.number apart.0) in
-    elim (is_among drops j.number) as (λ b. under i.number (cond b (told j (Some Withdrawn) (judged drops (e ++ i ∷ later) now)) (told j (reason_by j now) (judged drops (e ++ i ∷ later) (drop 1 now))))
+    elim (is_among drops j.number) as (λ b. under i.number (cond b (with_told j (Some Withdrawn) (judged drops (e ++ i ∷ later) now)) (with_told j (reason_by j now) (judged drops (e ++ i ∷ later) (drop 1 now))))
     ≡ option_and_then (told_of i) (cond (is_among drops i.number) (Some Withdrawn) (reason_by i (drop (length (cond (not b) (j ∷ staying drops e) (staying drops e))) now)))) [
       | true ↦ passed i.number j (Some Withdrawn) (judged drops (e ++ i ∷ later) now) differs ∙ judged_alone drops e i later now apart.1
       | false ↦ passed i.number j (reason_by j now) (judged drops (e ++ i ∷ later) (drop 1 now)) differs ∙ judged_alone drops e i later (drop 1 now) apart.1
@@ -248,7 +248,7 @@ told_step drops now telling e i t own rest = by (is_among drops i.number) refl
     more = ap (λ (n : ℕ). judged drops t (drop n now)) (sym (staying_on drops e i)) ∙ rest ∙ ap (λ (n : ℕ). filter_map telling (enumerate_from n t)) (length_push e i)
 
     by : (b : Bool) → is_among drops i.number ≡ b
-        → cond b (told i (Some Withdrawn) (judged drops t behind)) (told i (reason_by i behind) (judged drops t (drop 1 behind))) ≡ cons_option (telling (length e, i)) (filter_map telling (enumerate_from (length e + 1) t))
+        → cond b (with_told i (Some Withdrawn) (judged drops t behind)) (with_told i (reason_by i behind) (judged drops t (drop 1 behind))) ≡ cons_option (telling (length e, i)) (filter_map telling (enumerate_from (length e + 1) t))
     by true goes = ap₂ (λ (one : Option BrokenItem) (list : List BrokenItem). cons_option one list)
         (ap (λ (b : Bool). option_and_then (told_of i) (cond b (Some Withdrawn) (reason_by i behind))) (sym goes) ∙ own)
         (ap (λ (n : ℕ). judged drops t (drop n now)) (sym (ap (λ (b : Bool). length (staying drops e) + cond b 0 1) goes ∙ add-zero (length (staying drops e)))) ∙ more)

@@ -9,7 +9,7 @@ ghost use Rattle.cycle_rules.specs.Repairing.{reworked};
 ghost use Rattle.mail_cycle.specs.Leaving.{IsMadeFrom, Leaves};
 ghost use Rattle.mail_cycle.specs.Reaching.{AreRepairs, IsAtPoint, Passes, Settles};
 ghost use Rattle.mail_cycle.specs.Tasks.{Begins};
-ghost use Rattle.replay_crew.specs.Hearing.{Counts, TellsAll};
+ghost use Rattle.replay_crew.specs.Hearing.{CountsTextReads, TellsAll};
 
 use crate::replaying::replay_by_levels;
 use crate::running::{Replayed, replay_in_order};
@@ -101,7 +101,7 @@ fn go_to<B: Bodies, L: Ledger>(
     ensures unmatched { IfOk result (λ there. there.repairs.unmatched ≡ edited.unmatched) }
     ensures steps { OnOk result (steps.new + first.count ≡ steps.old + place) }
     ensures most { OnErr result (steps.new + first.count ≤ steps.old + place) }
-    ensures reads { Counts (B.told bodies.old) (B.told bodies.new) result }
+    ensures reads { CountsTextReads (B.told bodies.old) (B.told bodies.new) result }
     ensures stays { StaysTold (B.told bodies.old) (B.told bodies.new) }
     ensures leads { B.leads bodies.old bodies.new }
 {
@@ -149,7 +149,7 @@ fn at_point<B: Bodies, L: Ledger>(
     ensures there { IfOk result (IsAtPoint due.now first (B.told bodies.old) (B.told bodies.new)) }
     ensures steps { OnOk result (steps.new + first.count ≡ steps.old + due.now.repair.place) }
     ensures most { OnErr result (steps.new + first.count ≤ steps.old + due.now.repair.place) }
-    ensures reads { Counts (B.told bodies.old) (B.told bodies.new) result }
+    ensures reads { CountsTextReads (B.told bodies.old) (B.told bodies.new) result }
     ensures stays { StaysTold (B.told bodies.old) (B.told bodies.new) }
     ensures leads { B.leads bodies.old bodies.new }
 {
@@ -204,7 +204,7 @@ pub fn rework_by_levels<R: Threads + Sync, G: Gate, B: Bodies, L: Ledger>(
         → IfOk result (Leaves due.now.kept (reworked due.now.kept due.now.at due.now.repair)) }
     ensures steps { IfOk result (λ made. steps.new ≤ steps.old + (due.now.repair.place - first.count) + due.now.repair.acts + made.report.kept + length made.report.notices) }
     ensures most { OnErr result (steps.new ≤ steps.old + (due.now.repair.place - first.count) + due.now.repair.acts + due.now.repair.kept + length due.now.kept.house.accounts) }
-    ensures reads { Counts (B.told bodies.old) (B.told bodies.new) result }
+    ensures reads { CountsTextReads (B.told bodies.old) (B.told bodies.new) result }
     ensures stays { StaysTold (B.told bodies.old) (B.told bodies.new) }
     ensures leads { B.leads bodies.old bodies.new }
 {
@@ -238,7 +238,7 @@ pub fn rework_in_order<B: Bodies, L: Ledger>(
         → IfOk result (Leaves due.now.kept (reworked due.now.kept due.now.at due.now.repair)) }
     ensures steps { IfOk result (λ made. steps.new ≤ steps.old + (due.now.repair.place - first.count) + due.now.repair.acts + made.report.kept + length made.report.notices) }
     ensures most { OnErr result (steps.new ≤ steps.old + (due.now.repair.place - first.count) + due.now.repair.acts + due.now.repair.kept + length due.now.kept.house.accounts) }
-    ensures reads { Counts (B.told bodies.old) (B.told bodies.new) result }
+    ensures reads { CountsTextReads (B.told bodies.old) (B.told bodies.new) result }
     ensures stays { StaysTold (B.told bodies.old) (B.told bodies.new) }
     ensures leads { B.leads bodies.old bodies.new }
 {

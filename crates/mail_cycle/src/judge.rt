@@ -1,6 +1,6 @@
 //! The items of users that are broken or withdrawn.
 ghost use Rattle.std.specs.Prelude.{◌≡◌, [], ◌++◌, drop, IfOk, OnOk};
-ghost use Rattle.cycle_rules.specs.Judging.{judged, reason_by as reason_due, told as telling};
+ghost use Rattle.cycle_rules.specs.Judging.{judged, reason_by as reason_due, with_told};
 
 use crate::Shows;
 use paradox::{BrokenItem, BrokenList, Reason, broken};
@@ -50,7 +50,7 @@ fn tell(
     item: &StoredItem,
     reason: Option<Reason>,
 ) -> Result<(), NoMemory>
-    ensures { OnOk result (list.new ≡ list.old ++ telling item.now reason []) }
+    ensures { OnOk result (list.new ≡ list.old ++ with_told item.now reason []) }
 {
     let Some(reason) = reason else {
         return Ok(());

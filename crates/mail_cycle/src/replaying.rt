@@ -9,7 +9,7 @@ ghost use Rattle.touch_rules.specs.Table.{touches_of};
 ghost use Rattle.replay_plan.specs.Placing.{levels_of as plan_of};
 ghost use Rattle.verb_core.specs.Texts.{StaysTold};
 ghost use Rattle.stored_items.specs.Stored.{AllHeard};
-ghost use Rattle.replay_crew.specs.Hearing.{Counts, HoldsOf, StoresOf};
+ghost use Rattle.replay_crew.specs.Hearing.{CountsTextReads, HoldsOf, StoresOf};
 ghost use Rattle.replay_crew.specs.Resolving.{AreResolved, AreResolvedFrom};
 
 use crate::Shows;
@@ -77,7 +77,7 @@ pub(crate) fn replay_by_levels<R: Threads + Sync, G: Gate, B: Bodies, L: Ledger>
     ensures shows { IfOk result (λ made. made.shows ≡ answers store.store made.items) }
     ensures steps { OnOk result (steps.new ≡ steps.old + length items) }
     ensures most { OnErr result (steps.new ≤ steps.old + length items) }
-    ensures reads { Counts (B.told bodies.old) (B.told bodies.new) result }
+    ensures reads { CountsTextReads (B.told bodies.old) (B.told bodies.new) result }
     ensures stays { StaysTold (B.told bodies.old) (B.told bodies.new) }
     ensures leads { B.leads bodies.old bodies.new }
 {

@@ -8,7 +8,7 @@ ghost use Rattle.verb_core.specs.Store.{IsValid};
 ghost use Rattle.verb_core.specs.Texts.{StaysTold};
 ghost use Rattle.stored_items.specs.Stored.{AllHeard, IsHeard};
 ghost use Rattle.verb_core.specs.declared.bodies.BodiesFault.TheVariants.{NoMemory as no_memory};
-ghost use Rattle.replay_crew.specs.Hearing.{Counts, HoldsOf, StoresOf, heard_as};
+ghost use Rattle.replay_crew.specs.Hearing.{CountsTextReads, HoldsOf, StoresOf, heard_as};
 
 use crate::Shows;
 use box_store::{Steps, Store};
@@ -66,7 +66,7 @@ fn perform_heard<B: Bodies, L: Ledger>(
     ensures shown { IfOk result (λ shown. shown ≡ (step store.old.store item.new).1) }
     ensures steps { OnOk result (steps.new ≡ steps.old + 1) }
     ensures no_step { OnErr result (steps.new ≡ steps.old) }
-    ensures reads { Counts (B.told bodies.old) (B.told bodies.new) result }
+    ensures reads { CountsTextReads (B.told bodies.old) (B.told bodies.new) result }
     ensures stays { StaysTold (B.told bodies.old) (B.told bodies.new) }
     ensures leads { B.leads bodies.old bodies.new }
 {
@@ -115,7 +115,7 @@ fn perform_each<B: Bodies, L: Ledger>(
     ensures shows { IfOk result (λ shows. shows ≡ drop front (answers store.old.store items.new.items)) }
     ensures steps { OnOk result (steps.new ≡ steps.old + length items.old.items) }
     ensures most { OnErr result (steps.new ≤ steps.old + length items.old.items) }
-    ensures reads { Counts (B.told bodies.old) (B.told bodies.new) result }
+    ensures reads { CountsTextReads (B.told bodies.old) (B.told bodies.new) result }
     ensures stays { StaysTold (B.told bodies.old) (B.told bodies.new) }
     ensures leads { B.leads bodies.old bodies.new }
 {
@@ -148,7 +148,7 @@ pub fn replay_in_order<B: Bodies, L: Ledger>(
     ensures shows { IfOk result (λ made. made.shows ≡ drop front (answers store.store made.items)) }
     ensures steps { OnOk result (steps.new ≡ steps.old + length items) }
     ensures most { OnErr result (steps.new ≤ steps.old + length items) }
-    ensures reads { Counts (B.told bodies.old) (B.told bodies.new) result }
+    ensures reads { CountsTextReads (B.told bodies.old) (B.told bodies.new) result }
     ensures stays { StaysTold (B.told bodies.old) (B.told bodies.new) }
     ensures leads { B.leads bodies.old bodies.new }
 {

@@ -17,7 +17,7 @@ use Rattle.stored_items.proofs.Whole.{notice_kept}
 use Rattle.store_kept.specs.Kept.{BaseTexts}
 use Rattle.store_kept.specs.Texts.{has_text_with, is_in_memory, text_before, text_with}
 use Rattle.mail_desk.specs.Noting.{IsNotedIn}
-use Rattle.mail_desk.specs.Timeline.{item_of, body_of, has_text, memory_told_by, text_in_memory, told_by, unshown, NotesText, SizesOf}
+use Rattle.mail_desk.specs.Timeline.{item_of, body_of, has_text, memory_text_by_rev, text_in_memory, text_by_rev, unshown, NotesText, SizesOf}
 use Rattle.mail_desk.proofs.Timelines.{all_weaker, unequal}
 
 -- whether an item brought the text of a body
@@ -43,11 +43,11 @@ pub through : {A B : Type 0} (f : A → Option B) (b : Bool) (x : A) (o : Option
 through f true x o = refl
 through f false x o = refl
 
-pub text_by_item : (t : List Item) → NumbersApart t → (body : Body) → text_of t body ≡ option_and_then (told_by body) (item_of t body.origin)
+pub text_by_item : (t : List Item) → NumbersApart t → (body : Body) → text_of t body ≡ option_and_then (text_by_rev body) (item_of t body.origin)
 text_by_item [] apart body = refl
 text_by_item (i ∷ t) apart body =
     through (λ (j : Item). text_in j.deed) (brings body i) i (find (brings body) t)
-    ∙ elim (i.number == body.origin) as (λ b. (i.number == body.origin) ≡ b → cond (b && (i.rev == body.rev) && is_some (text_in i.deed)) (text_in i.deed) (text_of t body) ≡ option_and_then (told_by body) (cond b (Some i) (item_of t body.origin))) [
+    ∙ elim (i.number == body.origin) as (λ b. (i.number == body.origin) ≡ b → cond (b && (i.rev == body.rev) && is_some (text_in i.deed)) (text_in i.deed) (text_of t body) ≡ option_and_then (text_by_rev body) (cond b (Some i) (item_of t body.origin))) [
       | true ↦ λ e. by_item i body (text_of t body) (i.rev == body.rev) (text_in i.deed) refl (none_numbered t body i.number apart.0 (let same : i.number ≡ body.origin = grind (arith, nat_tests) in same))
       | false ↦ λ e. text_by_item t apart.1 body
     ] refl
@@ -60,12 +60,12 @@ told_so false o text e = absurd (let wrong : ◌≡◌ {A = Option (List ℕ)} N
 pub memory_told : (first : ℕ) (t : List Item) → NumbersApart t → (body : Body) (text : List ℕ) → text_in_memory first t body ≡ Some text → text_of t body ≡ Some text
 memory_told first t apart body text e = text_by_item t apart body ∙ from (item_of t body.origin) e
   where
-    from : (o : Option Item) → option_and_then (memory_told_by first body) o ≡ Some text → option_and_then (told_by body) o ≡ Some text
+    from : (o : Option Item) → option_and_then (memory_text_by_rev first body) o ≡ Some text → option_and_then (text_by_rev body) o ≡ Some text
     from None e = e
-    from (Some i) e = told_so (is_in_memory first i) (told_by body i) text e
+    from (Some i) e = told_so (is_in_memory first i) (text_by_rev body i) text e
 
 -- it is what is kept of the item
-pub told_as_kept : (i : Item) (body : Body) → is_notice i.deed ≡ true → told_by body (stored i) ≡ told_by body i
+pub told_as_kept : (i : Item) (body : Body) → is_notice i.deed ≡ true → text_by_rev body (stored i) ≡ text_by_rev body i
 told_as_kept i body is = ap (λ (d : Deed). cond (i.rev == body.rev) (text_in d) None) (sym (notice_kept i.deed is))
 
 -- ---- an item more

@@ -23,7 +23,7 @@ use Rattle.store_kept.proofs.Bodies.{bodies_total, tied}
 use Rattle.store_kept.proofs.Coming.{comes_from}
 use Rattle.mail_desk.specs.declared.noting.Fresh.{Fresh}
 use Rattle.mail_desk.specs.Noting.{IsNotedBefore, IsNotedBy, IsNotedIn, Knows, note_by, noted_by, notice_note, renoted, rows_before, rows_by}
-use Rattle.mail_desk.specs.Timeline.{SizesOf, body_of, has_text, item_of, notice_text_of, notice_told_by}
+use Rattle.mail_desk.specs.Timeline.{SizesOf, body_of, has_text, item_of, notice_text_of, notice_text_by_rev}
 use Rattle.mail_desk.proofs.BodyTexts.{all_first, all_last, brings, itself, own_texts, text_joined, through}
 use Rattle.mail_desk.proofs.Timelines.{all_joined, all_weaker, unequal}
 
@@ -127,7 +127,7 @@ module _ (old : List Row) (fresh : Fresh) where
   notice_here i t text brought =
       let number : (i.number == i.number) ≡ true = grind (arith, nat_tests) in
       let rev : (i.rev == i.rev) ≡ true = grind (arith, nat_tests) in
-      ap (λ (b : Bool). option_map (notice_note fresh.place) (option_and_then (notice_told_by (body_of i)) (cond b (Some i) (item_of t i.number)))) number
+      ap (λ (b : Bool). option_map (notice_note fresh.place) (option_and_then (notice_text_by_rev (body_of i)) (cond b (Some i) (item_of t i.number)))) number
       ∙ ap (λ (b : Bool). option_map (notice_note fresh.place) (cond (is_notice i.deed) (cond b (text_in i.deed) None) None)) rev
       ∙ ap (λ (o : Option (List ℕ)). option_map (notice_note fresh.place) (cond (is_notice i.deed) o None)) brought
       ∙ one_of (is_notice i.deed)
@@ -228,7 +228,7 @@ module _ (old : List Row) (fresh : Fresh) where
   right_before t later r right =
       let told = some_text (text_of t r.0) r.1.length right.1 in
       let text : text_of (t ++ later) r.0 ≡ text_of t r.0 = text_joined t later r.0 ∙ ap (λ (b : Bool). cond b (text_of t r.0) (text_of later r.0)) told in
-      let notice : notice_text_of (t ++ later) r.0 ≡ notice_text_of t r.0 = ap (option_and_then (notice_told_by r.0)) (item_before t later r.0 told) in
+      let notice : notice_text_of (t ++ later) r.0 ≡ notice_text_of t r.0 = ap (option_and_then (notice_text_by_rev r.0)) (item_before t later r.0 told) in
       ((λ j. by_texts r.0 (text j) (notice j)) ∙ right.0, ap (option_map length) text ∙ right.1)
     where
       some_text : (o : Option (List ℕ)) (n : ℕ) → option_map length o ≡ Some n → is_some o ≡ true

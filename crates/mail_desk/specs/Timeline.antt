@@ -31,24 +31,24 @@ NotesText None body place from old new = new ≡ old
 NotesText (Some text) body place from old new = NotesOnly old new body (record { place = place; from = from; length = length text })
 
 -- the text that an item of a body's number tells of it
-abbrev pub told_by : Body → Item → Option (List ℕ)
-told_by body i = if i.rev == body.rev then text_in i.deed else None
+abbrev pub text_by_rev : Body → Item → Option (List ℕ)
+text_by_rev body i = if i.rev == body.rev then text_in i.deed else None
 
 -- the same of a notice
-abbrev pub notice_told_by : Body → Item → Option (List ℕ)
-notice_told_by body i = if is_notice i.deed then told_by body i else None
+abbrev pub notice_text_by_rev : Body → Item → Option (List ℕ)
+notice_text_by_rev body i = if is_notice i.deed then text_by_rev body i else None
 
 -- the text of a body that a notice brings
 abbrev pub notice_text_of : List Item → Body → Option (List ℕ)
-notice_text_of t body = option_and_then (notice_told_by body) (item_of t body.origin)
+notice_text_of t body = option_and_then (notice_text_by_rev body) (item_of t body.origin)
 
 -- the same of one of this journal, whose text is in memory
-abbrev pub memory_told_by : ℕ → Body → Item → Option (List ℕ)
-memory_told_by first body i = if is_in_memory first i then told_by body i else None
+abbrev pub memory_text_by_rev : ℕ → Body → Item → Option (List ℕ)
+memory_text_by_rev first body i = if is_in_memory first i then text_by_rev body i else None
 
 -- the text of a body that is in memory, where numbers are drawn from the first one on
 abbrev pub text_in_memory : ℕ → List Item → Body → Option (List ℕ)
-text_in_memory first t body = option_and_then (memory_told_by first body) (item_of t body.origin)
+text_in_memory first t body = option_and_then (memory_text_by_rev first body) (item_of t body.origin)
 
 -- the note of a body whose text is not in memory
 abbrev pub noted_of : ℕ → List Item → List (Body × Note) → Body → Option Note

@@ -1,7 +1,7 @@
 //! The texts that items bring: whether a body has one, where it lies, and a notice's, which is in memory.
 ghost use Rattle.std.specs.Prelude.{◌≡◌, Some, None, List, ℕ, is_some, length, take, option_copied, option_map, if◌then◌else◌};
 ghost use Rattle.verb_core.specs.Items.{NumbersApart};
-ghost use Rattle.mail_desk.specs.Timeline.{has_text, memory_told_by, noted_of, rev_of, text_in_memory, told_by};
+ghost use Rattle.mail_desk.specs.Timeline.{has_text, memory_text_by_rev, noted_of, rev_of, text_in_memory, text_by_rev};
 ghost use Rattle.store_kept.specs.Texts.{has_text_among, has_text_kept, is_in_memory as is_held, text_at_hand, text_kept};
 
 use crate::Desk;
@@ -12,8 +12,8 @@ use undo_base::Text;
 use verb_core::{Body, Item};
 
 /// The text that an item of the body's number tells of it.
-fn told(item: &Item, body: Body) -> Option<&Text>
-    ensures { option_copied result ≡ told_by body item.now }
+fn text_of_rev(item: &Item, body: Body) -> Option<&Text>
+    ensures { option_copied result ≡ text_by_rev body item.now }
 {
     if item.rev == body.rev {
         item.deed.text()
@@ -31,10 +31,10 @@ fn is_in_memory(item: &StoredItem, first: u32) -> bool
 
 /// The text that an item of the body's number tells of it, if it is in memory.
 fn told_in_memory(item: &StoredItem, first: u32, body: Body) -> Option<&Text>
-    ensures { option_copied result ≡ memory_told_by first body item.now }
+    ensures { option_copied result ≡ memory_text_by_rev first body item.now }
 {
     if is_in_memory(item, first) {
-        told(item.item(), body)
+        text_of_rev(item.item(), body)
     } else {
         None
     }
@@ -42,7 +42,7 @@ fn told_in_memory(item: &StoredItem, first: u32, body: Body) -> Option<&Text>
 
 /// Whether an item of the body's number tells its text.
 fn tells(item: &StoredItem, body: Body) -> bool
-    ensures { result ≡ is_some (told_by body item.now) }
+    ensures { result ≡ is_some (text_by_rev body item.now) }
 {
     if item.body().rev == body.rev {
         item.has_text()

@@ -157,8 +157,8 @@ pub record RanOn (command : Option Command) (disk : DiskTold) (link link' : Link
 abbrev pub CountsReads : Option Command → DiskTold → DiskTold → Type 0
 CountsReads command old new = MatchBool (serves command) (old.failed_reads ≤ new.failed_reads) (new.failed_reads ≡ old.failed_reads)
 
--- What a cut of the store that was opened is, at a point that it has: a journal of payloads; of an honest disk those of the records of what
--- was kept, cut there.
+-- What a cut of the store that was opened is, at a point that it has: a journal of payloads. Of an honest disk, they are those of the
+-- records of what was kept, cut there.
 pub record IsCut (disk : DiskTold) (point : ℕ) (bytes : List ℕ) : Type 0 where
   pub first : Kept
   pub is_opened : IsOpened disk first

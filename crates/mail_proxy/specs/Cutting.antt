@@ -53,8 +53,8 @@ cut_status cut.Read = 5
 cut_status cut.Sink = 9
 cut_status cut.NoMemory = 8
 
--- The sink took a first part of this, and not all, and then a write found no memory, and there was no write after it; or some bytes were
--- written, and no memory was found for what was to be written next.
+-- The sink took a first part of this, and not all. Then a write found no memory, and there was no write after it; or some bytes were
+-- written, and no memory was found for what was next.
 abbrev pub RunsOutOfMemoryBegun : SinkTold → SinkTold → List ℕ → Type 0
 RunsOutOfMemoryBegun old new bytes =
     (front : List ℕ) × (back : List ℕ) × (bytes ≡ front ++ back) × (0 < length back) × (before : SinkTold) × Took old before front
@@ -75,8 +75,8 @@ pub record IsShort (payloads : List (List ℕ)) (bytes : List ℕ) : Type 0 wher
 
 module _ {D : Type 0} (told : D → DiskTold) where
   -- The payloads of a cut of what is kept, at a point that it has, with the texts that were read. Where these were as they were stored,
-  -- they are the bytes of the records of what is kept, cut at the point; and these can be written, so that their journal opens as the cut,
-  -- where each payload has a frame.
+  -- they are the bytes of the records of what is kept, cut at the point. These can be written: their journal opens as the cut, where
+  -- each payload has a frame.
   pub record IsCutOf (stored : Type 0) (first : Lasting D) (point : ℕ) (payloads : List (List ℕ)) : Type 0 where
     pub place : ℕ
     pub place_is : position first.kept.timeline point ≡ Some place

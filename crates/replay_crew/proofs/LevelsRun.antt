@@ -10,7 +10,7 @@ use Rattle.verb_core.specs.Store.{MailStore, IsValid}
 use Rattle.verb_core.specs.Step.{run, answers}
 use Rattle.verb_core.proofs.Validity.{step_with-IsValid}
 use Rattle.replay_plan.specs.Placing.{levels_of}
-use Rattle.replay_crew.specs.Orders.{turns, Placed, run_turns, told, are_apart, all_apart, AllFit, IsOrder, AreWellFormed, at_places, by_levels, touches_by_turn, levels_at, run_levels, told_by_levels}
+use Rattle.replay_crew.specs.Orders.{turns, Placed, run_turns, answers_of_turns, are_apart, all_apart, AllFit, IsOrder, AreWellFormed, at_places, by_levels, touches_by_turn, levels_at, run_levels, told_by_levels}
 use Rattle.replay_crew.proofs.Turning.{after, answer, fit_split, turns_fit, order_store, order_told}
 use Rattle.replay_crew.proofs.OneStore.{answer_behind}
 use Rattle.replay_crew.proofs.ByLevels.{EachApart, plan_apart, plan_order}
@@ -21,7 +21,7 @@ pub run_join : (s : MailStore) (ps qs : List Placed) → run_turns s (ps ++ qs) 
 run_join s [] qs = refl
 run_join s (p ∷ ps) qs = run_join (after s p) ps qs
 
-told_join : (s : MailStore) (ps qs : List Placed) → told s (ps ++ qs) ≡ told s ps ++ told (run_turns s ps) qs
+told_join : (s : MailStore) (ps qs : List Placed) → answers_of_turns s (ps ++ qs) ≡ answers_of_turns s ps ++ answers_of_turns (run_turns s ps) qs
 told_join s [] qs = refl
 told_join s (p ∷ ps) qs = ap (λ r. (p.0, answer s p) ∷ r) (told_join (after s p) ps qs)
 
@@ -55,7 +55,7 @@ same_told s q [] valid fit apart = refl
 same_told s q (p ∷ ps) valid fit apart =
     ap₂ (λ (x : Shown) (r : List (ℕ × Shown)). (p.0, x) ∷ r) (answer_behind s q p valid (fit.1.0, (fit.0, tt)) (first_so _ _ apart)) (same_told s q ps valid (fit.0, fit.1.1) (second_so _ _ apart))
 
-told_level : (level : List Placed) (s : MailStore) → IsValid s → AllFit s.house level → all_apart level ≡ true → map {B = ℕ × Shown} (λ (p : Placed). (p.0, answer s p)) level ≡ told s level
+told_level : (level : List Placed) (s : MailStore) → IsValid s → AllFit s.house level → all_apart level ≡ true → map {B = ℕ × Shown} (λ (p : Placed). (p.0, answer s p)) level ≡ answers_of_turns s level
 told_level [] s valid fit apart = refl
 told_level (q ∷ ps) s valid fit apart =
     ap (λ r. (q.0, answer s q) ∷ r) (sym (same_told s q ps valid fit (first_so _ _ apart)) ∙ told_level ps (after s q) (step_with-IsValid q.1.0 s q.1.1 valid fit.0.0) fit.1 (second_so _ _ apart))
@@ -66,7 +66,7 @@ run_by : (s : MailStore) (all : List Placed) (plan : List (List ℕ)) → run_le
 run_by s all [] = refl
 run_by s all (places ∷ more) = run_by (run_turns s (at_places all places)) all more ∙ sym (run_join s (at_places all places) (by_levels more all))
 
-told_by : (s : MailStore) (all : List Placed) (plan : List (List ℕ)) → IsValid s → AllFit s.house (by_levels plan all) → EachApart (levels_at all plan) → told_by_levels s (levels_at all plan) ≡ told s (by_levels plan all)
+told_by : (s : MailStore) (all : List Placed) (plan : List (List ℕ)) → IsValid s → AllFit s.house (by_levels plan all) → EachApart (levels_at all plan) → told_by_levels s (levels_at all plan) ≡ answers_of_turns s (by_levels plan all)
 told_by s all [] valid fit apart = refl
 told_by s all (places ∷ more) valid fit apart =
     let level : List Placed = at_places all places in

@@ -14,7 +14,7 @@ use Rattle.verb_core.proofs.Validity.{step_with-IsValid}
 use Rattle.touch_rules.specs.Swapping.{CanHave, Swap}
 use Rattle.touch_rules.proofs.Orders.{swap_given}
 use Rattle.touch_rules.proofs.AimsKept.{can_find}
-use Rattle.replay_crew.specs.Orders.{turns, Placed, run_turns, told, may_turn, AllFit, IsOrder, AreWellFormed}
+use Rattle.replay_crew.specs.Orders.{turns, Placed, run_turns, answers_of_turns, may_turn, AllFit, IsOrder, AreWellFormed}
 
 -- ---- lists
 
@@ -46,7 +46,7 @@ two a b xs = IsPermutation-middle (a ∷ []) b xs
 
 record Same (s : MailStore) (ps qs : List Placed) : Type 0 where
   store : run_turns s ps ≡ run_turns s qs
-  told_same : IsPermutation (told s ps) (told s qs)
+  told_same : IsPermutation (answers_of_turns s ps) (answers_of_turns s qs)
 
 pull : (s : MailStore) → IsValid s → (front : List Placed) (p : Placed) (back : List Placed) → AllFit s.house (front ++ p ∷ back) → list_all (λ q. may_turn q p) front ≡ true → Same s (front ++ p ∷ back) (p ∷ (front ++ back))
 pull s valid [] p back fit ok = record { store = refl; told_same = IsPermutation-refl _ }
@@ -59,9 +59,9 @@ pull s valid (q ∷ front) p back fit ok =
       store = rest.store ∙ ap (λ t. run_turns t (front ++ back)) sw.store;
       told_same =
           IsPermutation-trans _ _ _ (IsPermutation-cons (q.0, answer s q) _ _ rest.told_same)
-          (subst (λ (us : List (ℕ × Shown)). IsPermutation ((q.0, answer s q) ∷ (p.0, answer (after s q) p) ∷ told (after (after s q) p) (front ++ back)) us)
+          (subst (λ (us : List (ℕ × Shown)). IsPermutation ((q.0, answer s q) ∷ (p.0, answer (after s q) p) ∷ answers_of_turns (after (after s q) p) (front ++ back)) us)
           (turned sw.second (sym sw.first) sw.store)
-          (two (q.0, answer s q) (p.0, answer (after s q) p) (told (after (after s q) p) (front ++ back))));
+          (two (q.0, answer s q) (p.0, answer (after s q) p) (answers_of_turns (after (after s q) p) (front ++ back))));
     }
   where
     not_both : (b : Bool) → not b ≡ true → b ≡ false
@@ -69,8 +69,8 @@ pull s valid (q ∷ front) p back fit ok =
     not_both false h = refl
 
     turned : {a b c d : Shown} {t u : MailStore} → a ≡ b → c ≡ d → t ≡ u
-        → (p.0, a) ∷ (q.0, c) ∷ told t (front ++ back) ≡ (p.0, b) ∷ (q.0, d) ∷ told u (front ++ back)
-    turned ab cd tu = λ j. (p.0, ab j) ∷ (q.0, cd j) ∷ told (tu j) (front ++ back)
+        → (p.0, a) ∷ (q.0, c) ∷ answers_of_turns t (front ++ back) ≡ (p.0, b) ∷ (q.0, d) ∷ answers_of_turns u (front ++ back)
+    turned ab cd tu = λ j. (p.0, ab j) ∷ (q.0, cd j) ∷ answers_of_turns (tu j) (front ++ back)
 
 -- ---- any order
 
@@ -98,12 +98,12 @@ store_in_order : (n : ℕ) (s : MailStore) (items : List Item) → run_turns s (
 store_in_order n s [] = refl
 store_in_order n s (i ∷ items) = store_in_order (n + 1) (step s i).0 items
 
-told_in_order : (n : ℕ) (s : MailStore) (items : List Item) → told s (enumerate_from n (turns s items)) ≡ enumerate_from n (answers s items)
+told_in_order : (n : ℕ) (s : MailStore) (items : List Item) → answers_of_turns s (enumerate_from n (turns s items)) ≡ enumerate_from n (answers s items)
 told_in_order n s [] = refl
 told_in_order n s (i ∷ items) = ap (λ r. (n, (step s i).1) ∷ r) (told_in_order (n + 1) (step s i).0 items)
 
 pub order_store : (s : MailStore) (items : List Item) (order : List Placed) → IsValid s → AreWellFormed s.house items → IsOrder order (enumerate_from 0 (turns s items)) → run_turns s order ≡ run s items
 order_store s items order valid formed o = (same_order order (enumerate_from 0 (turns s items)) s valid (turns_fit 0 s items formed) o).store ∙ store_in_order 0 s items
 
-pub order_told : (s : MailStore) (items : List Item) (order : List Placed) → IsValid s → AreWellFormed s.house items → IsOrder order (enumerate_from 0 (turns s items)) → IsPermutation (told s order) (enumerate_from 0 (answers s items))
-order_told s items order valid formed o = subst (IsPermutation (told s order)) (told_in_order 0 s items) (same_order order (enumerate_from 0 (turns s items)) s valid (turns_fit 0 s items formed) o).told_same
+pub order_told : (s : MailStore) (items : List Item) (order : List Placed) → IsValid s → AreWellFormed s.house items → IsOrder order (enumerate_from 0 (turns s items)) → IsPermutation (answers_of_turns s order) (enumerate_from 0 (answers s items))
+order_told s items order valid formed o = subst (IsPermutation (answers_of_turns s order)) (told_in_order 0 s items) (same_order order (enumerate_from 0 (turns s items)) s valid (turns_fit 0 s items formed) o).told_same

@@ -34,7 +34,7 @@ abbrev pub TellsAll : BodiesTold → List Item → Type 0
 TellsAll told items = AllByRecursion (TellsOf told) items
 
 -- how often a read failed: the count rose where one failed, and is as it was otherwise
-abbrev pub Counts : {X : Type 0} → BodiesTold → BodiesTold → Result X BodiesFault → Type 0
-Counts old new (Ok x) = new.faults ≡ old.faults
-Counts old new (Err Failed) = Rose old.faults new.faults
-Counts old new (Err NoMemory) = new.faults ≡ old.faults
+abbrev pub CountsTextReads : {X : Type 0} → BodiesTold → BodiesTold → Result X BodiesFault → Type 0
+CountsTextReads old new (Ok x) = new.faults ≡ old.faults
+CountsTextReads old new (Err Failed) = Rose old.faults new.faults
+CountsTextReads old new (Err NoMemory) = new.faults ≡ old.faults

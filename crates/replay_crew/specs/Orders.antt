@@ -34,9 +34,9 @@ run_turns s [] = s
 run_turns s (p ∷ ps) = run_turns (step_with p.1.0 s p.1.1).0 ps
 
 -- what each turn is answered, beside its place
-abbrev pub told : MailStore → List Placed → List (ℕ × Shown)
-told s [] = []
-told s (p ∷ ps) = (p.0, (step_with p.1.0 s p.1.1).1) ∷ told (step_with p.1.0 s p.1.1).0 ps
+abbrev pub answers_of_turns : MailStore → List Placed → List (ℕ × Shown)
+answers_of_turns s [] = []
+answers_of_turns s (p ∷ ps) = (p.0, (step_with p.1.0 s p.1.1).1) ∷ answers_of_turns (step_with p.1.0 s p.1.1).0 ps
 
 -- whether two may be turned: they commute, and not both are acts on aliases or filters
 abbrev pub may_turn : Placed → Placed → Bool

@@ -10,7 +10,7 @@ ghost use Rattle.verb_core.specs.Touched.{touches_box, SameAt, SameNames};
 ghost use Rattle.replay_plan.specs.Placing.{levels_of};
 ghost use Rattle.box_store.specs.Outline.{outline};
 ghost use Rattle.replay_crew.specs.Outline.{outline_after};
-ghost use Rattle.replay_crew.specs.Orders.{Placed, AreWellFormed, turns, run_turns, told, IsOrder, AllFit, AimsHold, AllAimed, are_apart, by_levels, touches_by_turn, levels_at, run_levels, told_by_levels};
+ghost use Rattle.replay_crew.specs.Orders.{Placed, AreWellFormed, turns, run_turns, answers_of_turns, IsOrder, AllFit, AimsHold, AllAimed, are_apart, by_levels, touches_by_turn, levels_at, run_levels, told_by_levels};
 
 /// Items with the aims that each finds when its turn comes leave the store that the items leave in order, and each gets the
 /// answer that it gets there. They are performed in any order in which the items of each pair that is turned commute and are not
@@ -19,7 +19,7 @@ pub fn orders_give_the_fold()
     ensures store { (s : MailStore) (items : List Item) (order : List Placed) → IsValid s → AreWellFormed s.house items →
         IsOrder order (enumerate_from 0 (turns s items)) → run_turns s order ≡ run s items }
     ensures answers { (s : MailStore) (items : List Item) (order : List Placed) → IsValid s → AreWellFormed s.house items →
-        IsOrder order (enumerate_from 0 (turns s items)) → IsPermutation (told s order) (enumerate_from 0 (answers s items)) }
+        IsOrder order (enumerate_from 0 (turns s items)) → IsPermutation (answers_of_turns s order) (enumerate_from 0 (answers s items)) }
 {}
 
 /// The plan of a timeline's items is such an order: level by level, and in each level by rising places.

@@ -2,7 +2,7 @@
 ghost use Rattle.std.specs.Prelude.{◌≡◌, IfOk};
 ghost use Rattle.verb_core.specs.Texts.{StaysTold};
 ghost use Rattle.stored_items.specs.Stored.{needs_text as needs};
-ghost use Rattle.replay_crew.specs.Hearing.{Counts, HoldsOf, StoresOf, heard_as};
+ghost use Rattle.replay_crew.specs.Hearing.{CountsTextReads, HoldsOf, StoresOf, heard_as};
 
 use std::alloc::Global;
 use stored_items::StoredItem;
@@ -40,7 +40,7 @@ pub fn text_for<B: Bodies>(
 ) -> Result<Text, BodiesFault>
     requires held { HoldsOf (B.told bodies.old) item.now }
     ensures same { (B.told bodies.old).honest → StoresOf (B.told bodies.old) item.now → IfOk result (λ text. heard_as item.now text ≡ item.now) }
-    ensures reads { Counts (B.told bodies.old) (B.told bodies.new) result }
+    ensures reads { CountsTextReads (B.told bodies.old) (B.told bodies.new) result }
     ensures stays { StaysTold (B.told bodies.old) (B.told bodies.new) }
     ensures leads { B.leads bodies.old bodies.new }
 {

@@ -9,7 +9,7 @@ ghost use Rattle.verb_core.specs.Store.{MailStore, IsValid};
 ghost use Rattle.verb_core.specs.Texts.{StaysTold};
 ghost use Rattle.stored_items.specs.Stored.{AllHeard, IsHeard};
 ghost use Rattle.touch_rules.specs.Table.{touches_of};
-ghost use Rattle.replay_crew.specs.Hearing.{Counts, HoldsOf, StoresOf, heard_as};
+ghost use Rattle.replay_crew.specs.Hearing.{CountsTextReads, HoldsOf, StoresOf, heard_as};
 ghost use Rattle.box_store.specs.Outline.{outline};
 ghost use Rattle.replay_crew.specs.Orders.{turns};
 ghost use Rattle.replay_crew.specs.Outline.{changes_outline as changes, outline_after};
@@ -127,7 +127,7 @@ fn resolve_next<B: Bodies, L: Ledger>(
     ensures turn { IfOk result (λ what. turn_of what ≡ stored_turn (sought_by outline.old.store item.new, item.new)) }
     ensures outline { OnOk result (outline.new.store ≡ outline_after outline.old.store item.new) }
     ensures valid { OnOk result (IsValid outline.new.store) }
-    ensures reads { Counts (B.told bodies.old) (B.told bodies.new) result }
+    ensures reads { CountsTextReads (B.told bodies.old) (B.told bodies.new) result }
     ensures stays { StaysTold (B.told bodies.old) (B.told bodies.new) }
     ensures leads { B.leads bodies.old bodies.new }
 {
@@ -184,7 +184,7 @@ fn resolve_over<B: Bodies, L: Ledger>(
     ensures heard { OnOk result (AllHeard items.old.items items.new.items) }
     ensures same { (B.told bodies.old).honest → AllByRecursion (StoresOf (B.told bodies.old)) items.old.items → OnOk result (items.new.items ≡ items.old.items) }
     ensures resolved { IfOk result (λ all. map turn_of all ≡ map stored_turn (turns store.now.store items.new.items)) }
-    ensures reads { Counts (B.told bodies.old) (B.told bodies.new) result }
+    ensures reads { CountsTextReads (B.told bodies.old) (B.told bodies.new) result }
     ensures stays { StaysTold (B.told bodies.old) (B.told bodies.new) }
     ensures leads { B.leads bodies.old bodies.new }
 {
@@ -213,7 +213,7 @@ pub fn resolve<B: Bodies>(
     ensures heard { OnOk result (AllHeard items.old.items items.new.items) }
     ensures same { (B.told bodies.old).honest → AllByRecursion (StoresOf (B.told bodies.old)) items.old.items → OnOk result (items.new.items ≡ items.old.items) }
     ensures resolved { IfOk result (λ all. AreResolvedFrom store.now.store items.new.items all) }
-    ensures reads { Counts (B.told bodies.old) (B.told bodies.new) result }
+    ensures reads { CountsTextReads (B.told bodies.old) (B.told bodies.new) result }
     ensures stays { StaysTold (B.told bodies.old) (B.told bodies.new) }
     ensures leads { B.leads bodies.old bodies.new }
 {

@@ -138,15 +138,15 @@ abbrev pub is_writing : Dialog → Bool
 is_writing d = is_writing_in d.transaction
 
 -- why there is no item
-abbrev pub told_fault : List ℕ → SubmitFault → SmtpOut
-told_fault host (IsRefused why) = Say (answer_text host (delivery_refused why))
-told_fault host Disk = Bye (answer_text host DiskFault)
-told_fault host Closed = Bye (answer_text host DiskFault)
+abbrev pub fault_said : List ℕ → SubmitFault → SmtpOut
+fault_said host (IsRefused why) = Say (answer_text host (delivery_refused why))
+fault_said host Disk = Bye (answer_text host DiskFault)
+fault_said host Closed = Bye (answer_text host DiskFault)
 
 -- what is said of an outcome: the item's number, or why there is none
-abbrev pub told : List ℕ → Result Item SubmitFault → SmtpOut
-told host (Ok item) = Say (answer_text host (Stored item.number))
-told host (Err fault) = told_fault host fault
+abbrev pub outcome_said : List ℕ → Result Item SubmitFault → SmtpOut
+outcome_said host (Ok item) = Say (answer_text host (Stored item.number))
+outcome_said host (Err fault) = fault_said host fault
 
 -- the host's name, while an outcome is due
 abbrev pub host_due : Transaction → List ℕ
@@ -157,7 +157,7 @@ host_due (Writing path to text) = []
 
 -- the outcome of what was asked: the transaction is over, whatever it is
 abbrev pub settle : Dialog → Result Item SubmitFault → DialogTurn
-settle d outcome = turns (told (host_due d.transaction) outcome) (with_transaction d Idle)
+settle d outcome = turns (outcome_said (host_due d.transaction) outcome) (with_transaction d Idle)
 
 -- the refusals that a delivery can meet: a full mailbox, numbers that are used up, want of memory
 abbrev pub is_refusal_of_delivery : Refused → Bool

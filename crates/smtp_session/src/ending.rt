@@ -1,7 +1,7 @@
 //! How a transaction ends.
 ghost use Rattle.std.specs.Prelude.{◌≡◌, IfOk, OnErr, true};
 ghost use Rattle.smtp_session.specs.Ending.{Ends};
-ghost use Rattle.smtp_session.specs.Dialog.{is_due_in, settle, told, told_fault, turns};
+ghost use Rattle.smtp_session.specs.Dialog.{is_due_in, settle, outcome_said, fault_said, turns};
 
 use crate::answer::{Answer, SmtpOut, answer_to_delivery, say, say_bye};
 use crate::dialog::{Dialog, Transaction};
@@ -36,7 +36,7 @@ pub(crate) fn end_transaction(
 }
 
 fn tell_fault(alloc: Global, host: &Name, fault: SubmitFault) -> Result<SmtpOut, NoMemory>
-    ensures { IfOk result (λ out. out ≡ told_fault host.now fault) }
+    ensures { IfOk result (λ out. out ≡ fault_said host.now fault) }
 {
     match fault {
         SubmitFault::Refused(refused) => say(alloc, host, answer_to_delivery(refused)),
@@ -50,7 +50,7 @@ fn tell(
     host: &Name,
     outcome: &Result<Item, SubmitFault>,
 ) -> Result<SmtpOut, NoMemory>
-    ensures { IfOk result (λ out. out ≡ told host.now outcome.now) }
+    ensures { IfOk result (λ out. out ≡ outcome_said host.now outcome.now) }
 {
     match outcome {
         Ok(item) => {

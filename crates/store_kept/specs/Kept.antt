@@ -95,10 +95,10 @@ with_base_text body text texts = rows.put body_cmp body text texts
 
 -- ---- what is kept
 
--- The house, the configuration at first, the base, the store before the first item, the texts that come with it, and the number
--- from which this journal draws. The store that is there, the items in force in order, the stamp of each mailbox, and the next
--- number. The reports of cycles, the snapshots, and whether names may have superiors. And what the last of all cycles and
--- withdrawals left to be withdrawn, where it is a cycle.
+-- `base` is the store before the first item, `texts` come with it, and numbers are drawn from `first` on. `store` is there now,
+-- `timeline` has the items in force in order, `stamps` each mailbox's, and `next` is drawn next. `reports` are those of cycles and
+-- withdrawals, and `deep` tells whether names may have superiors. `undone` is what the last of these left to be withdrawn, where
+-- it was a cycle.
 pub record Kept : Type 0 where
   pub house : House
   pub opening : Conf
@@ -114,8 +114,8 @@ pub record Kept : Type 0 where
   pub deep : Bool
   pub undone : Option UndoneBehind
 
--- What a store in use begins with: its house, the configuration at first, the base, the store before the first item, and the texts
--- that come with it. And the number from which this journal draws.
+-- What a store in use begins with: its house, the configuration at first, and its base, the store before the first item, with the
+-- texts that come with it. Numbers are drawn from `first` on.
 pub record Origin : Type 0 where
   pub house : House
   pub opening : Conf

@@ -13,7 +13,7 @@ use Rattle.verb_core.specs.Texts.{Answers, Gives, Rose}
 use Rattle.stored_items.specs.Stored.{needs_text}
 use Rattle.mail_desk.specs.Held.{Held}
 use Rattle.mail_desk.specs.Timeline.{body_of, item_of}
-use Rattle.replay_crew.specs.Hearing.{Counts, TellsAll, TellsOf}
+use Rattle.replay_crew.specs.Hearing.{CountsTextReads, TellsAll, TellsOf}
 use Rattle.seal_log.specs.Settled.{ReadsAlone}
 use Rattle.store_kept.specs.Kept.{Kept}
 use Rattle.cycle_rules.specs.Repairing.{Repair}
@@ -97,16 +97,16 @@ module _ {D : Type 0} (told : D → DiskTold) where
 
   -- a read failed exactly where a use of them says so
   pub deliveries_cause : {X : Type 0} (old new : Reading D) (items items' : List Item) (result : Result X BodiesFault) → DeliversOn told old new items items' → old.failed ≡ 0
-      → Counts (delivered_told told old items) (delivered_told told new items') result → BodiesCause (told old.past.now.disk) (told new.past.now.disk) result
+      → CountsTextReads (delivered_told told old items) (delivered_told told new items') result → BodiesCause (told old.past.now.disk) (told new.past.now.disk) result
   deliveries_cause old new items items' (Ok x) leads none same = none_failed told old new leads.reading none same
   deliveries_cause old new items items' (Err bodies_faults.Failed) leads none rose = one_failed told old new leads.reading none rose
   deliveries_cause old new items items' (Err bodies_faults.NoMemory) leads none same = none_failed told old new leads.reading none same
 
   -- and only where there is a delivery
   pub deliveries_due : {X : Type 0} (old new : Reading D) (items items' : List Item) (result : Result X BodiesFault) → DeliversOn told old new items items' → old.failed ≡ 0
-      → Counts (delivered_told told old items) (delivered_told told new items') result → result ≡ Err bodies_faults.Failed → some_deliver items ≡ true
+      → CountsTextReads (delivered_told told old items) (delivered_told told new items') result → result ≡ Err bodies_faults.Failed → some_deliver items ≡ true
   deliveries_due old new items items' result leads none counts is =
-      let rose : Rose old.failed new.failed = subst (Counts (delivered_told told old items) (delivered_told told new items')) is counts in
+      let rose : Rose old.failed new.failed = subst (CountsTextReads (delivered_told told old items) (delivered_told told new items')) is counts in
       leads.due none (omega (arith, none, rose.1))
 
   pub honest_as : (r : Reading D) (items : List Item) (disk : DiskTold) (held : Held) → told r.past.now.disk ≡ disk → r.desk.now ≡ held → ToldOr (HoldsHeld disk held) (some_deliver items) → (delivered_told told r items).honest

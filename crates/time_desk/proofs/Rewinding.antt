@@ -48,7 +48,7 @@ use Rattle.mail_cycle.specs.Leaving.{GoesOnAt, IsMade, IsMadeFrom, Leaves, Leave
 use Rattle.mail_cycle.specs.Refusing.{IsRefusalOf}
 use Rattle.mail_cycle.specs.Tasks.{GoesWith, IsCycle, IsTask, Task}
 use Rattle.mail_cycle.proofs.Made.{made_whole}
-use Rattle.replay_crew.specs.Hearing.{Counts}
+use Rattle.replay_crew.specs.Hearing.{CountsTextReads}
 use Rattle.verb_core.specs.declared.bodies.BodiesFault.{BodiesFault}
 use Rattle.verb_core.specs.declared.bodies.BodiesFault.TheVariants as bodies_faults
 use Rattle.time_desk.specs.declared.fault.CycleFault.{CycleFault}
@@ -188,7 +188,7 @@ module _ {D : Type 0} (told : D → DiskTold) (held : Held) (t : Task) (task : I
       → ((heard : List Item) → take first.count heard ≡ take first.count held.kept.timeline → take first.count (timeline_from held.kept t.at t.repair first.store.store first.count heard) ≡ take first.count held.kept.timeline)
       → (Holds → IsNewest held.kept t.repair.place first) → (some_marked held.kept t.repair.place ≡ false → (first.count ≡ 0) × (first.store.store ≡ held.kept.base))
       → IsPastRead told old mid → (told mid.disk).failed_reads ≡ (told old.disk).failed_reads
-      → r.past.now ≡ mid → r.desk.now ≡ held → r.failed ≡ 0 → DeliversOn told r s t.repair.items items → Counts (delivered_told told r t.repair.items) (delivered_told told s items) result
+      → r.past.now ≡ mid → r.desk.now ≡ held → r.failed ≡ 0 → DeliversOn told r s t.repair.items items → CountsTextReads (delivered_told told r t.repair.items) (delivered_told told s items) result
       → IfOk result (IsMadeFrom t.kept t.at t.repair first.store.store first.count (delivered_told told r t.repair.items).honest)
       → IfOk result (λ made. after ≤ before + (t.repair.place - first.count) + t.repair.acts + made.report.kept + length made.report.notices)
       → OnErr result (after ≤ before + (t.repair.place - first.count) + t.repair.acts + t.repair.kept + length t.kept.house.accounts)

@@ -16,7 +16,7 @@ use Rattle.seal_log.specs.Settled.{IsSettled, ReadsAlone}
 use Rattle.store_kept.specs.Kept.{Kept}
 use Rattle.time_desk.specs.declared.fault.StartFault.{StartFault}
 use Rattle.time_desk.specs.declared.fault.StartFault.TheVariants.{NotFormatted, Damaged, Disk, NoMemory}
-use Rattle.time_desk.specs.Opening.{FaultCounts, Finds, IsDamaged, IsStarted, Refuses, Starts}
+use Rattle.time_desk.specs.Opening.{CountsOfFault, Finds, IsDamaged, IsStarted, Refuses, Starts}
 use Rattle.desk_journal.specs.Records.{payloads_of}
 use Rattle.time_desk.specs.Standing.{BreaksAt, BreaksAtEnd, BreaksBehind, BreaksFor, BreaksInBase, BreaksInFront, Fails, IsOver, ReadCounts, SpellsAll}
 use Rattle.verb_core.specs.declared.mailbox.Body.{Body}
@@ -218,7 +218,7 @@ starts_when kept gate new old mid (Ok t) truth found ok counts reads reliable mo
 }
 
 -- why it does not open
-counts_later : (old mid new : DiskTold) (fault : StartFault) → SameCounts old mid → mid.is_reliable ≡ old.is_reliable → ReadsAlone mid new → ReadCounts mid new fault → FaultCounts old new fault
+counts_later : (old mid new : DiskTold) (fault : StartFault) → SameCounts old mid → mid.is_reliable ≡ old.is_reliable → ReadsAlone mid new → ReadCounts mid new fault → CountsOfFault old new fault
 counts_later old mid new NotFormatted counts reliable reads same = record { reads = same ∙ counts.reads; writes = reads.reads.writes ∙ counts.writes }
 counts_later old mid new (Damaged place) counts reliable reads same = record { reads = same ∙ counts.reads; writes = reads.reads.writes ∙ counts.writes }
 counts_later old mid new Disk counts reliable reads failed =

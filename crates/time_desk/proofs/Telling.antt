@@ -19,7 +19,7 @@ use Rattle.shelf.specs.declared.note.Note.{Note}
 use Rattle.shelf.specs.Notes.{note_of}
 use Rattle.repair_desk.specs.Repairs.{inserted, is_dropped, kept, new_timeline, repaired, replaced_by, takes_text, text_asked}
 use Rattle.cycle_rules.specs.Cycles.{repaired_items}
-use Rattle.replay_crew.specs.Hearing.{Counts, TellsAll, TellsOf}
+use Rattle.replay_crew.specs.Hearing.{CountsTextReads, TellsAll, TellsOf}
 use Rattle.verb_core.specs.declared.bodies.BodiesFault.{BodiesFault}
 use Rattle.verb_core.specs.declared.bodies.BodiesFault.TheVariants as bodies_faults
 use Rattle.time_desk.specs.Planning.{BodiesCause}
@@ -32,7 +32,7 @@ use Rattle.store_kept.specs.Kept.{Kept, origin_of}
 use Rattle.store_kept.specs.Texts.{items_asked, items_behind, text_at_hand, text_before, text_with}
 use Rattle.store_kept.proofs.Coming.{kept_at_hand, with_first}
 use Rattle.cycle_rules.specs.Withdrawals.{restored_items}
-use Rattle.mail_desk.specs.Timeline.{body_of, item_of, told_by}
+use Rattle.mail_desk.specs.Timeline.{body_of, item_of, text_by_rev}
 use Rattle.mail_desk.proofs.BodyTexts.{text_by_item}
 use Rattle.desk_journal.specs.Stored.{IsBefore, TextsNoted, is_recorded, item_with, recorded_in}
 use Rattle.desk_journal.specs.declared.read_texts.Reading.{Reading}
@@ -65,7 +65,7 @@ own_items (i ∷ t) apart =
 pub item_text : (t : List Item) (i : Item) → NumbersApart t → item_of t i.number ≡ Some i → text_of t (body_of i) ≡ text_in i.deed
 item_text t i apart own =
     let here : (i.rev == i.rev) ≡ true = grind (arith, nat_tests) in
-    text_by_item t apart (body_of i) ∙ ap (option_and_then (told_by (body_of i))) own ∙ ap (λ b. cond b (text_in i.deed) None) here
+    text_by_item t apart (body_of i) ∙ ap (option_and_then (text_by_rev (body_of i))) own ∙ ap (λ b. cond b (text_in i.deed) None) here
 
 -- ---- texts that a record has
 
@@ -345,7 +345,7 @@ module _ {D : Type 0} (told : D → DiskTold) where
       (tells_front held past.end held.kept.next replaces (HoldsHeld (told past.disk) held) 0 apart noted comes (λ holds. holds.1.revs.items) (length held.kept.timeline)))
 
   -- a read failed exactly where a use of a reading says so
-  pub bodies_cause : {X : Type 0} (old new : Reading D) (result : Result X BodiesFault) → LeadsOn told old new → old.failed ≡ 0 → Counts (reading_told told old) (reading_told told new) result
+  pub bodies_cause : {X : Type 0} (old new : Reading D) (result : Result X BodiesFault) → LeadsOn told old new → old.failed ≡ 0 → CountsTextReads (reading_told told old) (reading_told told new) result
       → BodiesCause (told old.past.now.disk) (told new.past.now.disk) result
   bodies_cause old new (Ok x) leads none same = none_failed old new leads none same
   bodies_cause old new (Err bodies_faults.Failed) leads none rose = one_failed old new leads none rose

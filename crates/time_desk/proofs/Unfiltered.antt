@@ -22,7 +22,7 @@ use Rattle.verb_core.specs.Store.{MailStore}
 use Rattle.verb_core.specs.Texts.{BodiesTold}
 use Rattle.stored_items.specs.Stored.{AllHeard, IsHeard, stored_deed}
 use Rattle.stored_items.proofs.Alike.{does_as_heard}
-use Rattle.replay_crew.specs.Hearing.{Counts, HoldsOf}
+use Rattle.replay_crew.specs.Hearing.{CountsTextReads, HoldsOf}
 use Rattle.time_desk.specs.Unfiltered.{all_empty, are_unfiltered, brings_no_filter}
 
 -- ---- what is looked at
@@ -123,12 +123,12 @@ pub all_hold : (items : List Item) → AllByRecursion (HoldsOf all_empty) items
 all_hold [] = tt
 all_hold (i ∷ items) = (λ needs. refl, all_hold items)
 
-pub never_fails : {X : Type 0} (r : Result X BodiesFault) → Counts all_empty all_empty r → IsErrOf r Failed → ⊥
+pub never_fails : {X : Type 0} (r : Result X BodiesFault) → CountsTextReads all_empty all_empty r → IsErrOf r Failed → ⊥
 never_fails (Ok x) counts failed = absurd (cc failed)
 never_fails (Err Failed) counts failed = absurd (omega (arith, counts.1))
 never_fails (Err NoMemory) counts failed = absurd (cc failed)
 
-pub counts_none : {X : Type 0} (told : BodiesTold) (r : Result X BodiesFault) → (IsErrOf r Failed → ⊥) → Counts told told r
+pub counts_none : {X : Type 0} (told : BodiesTold) (r : Result X BodiesFault) → (IsErrOf r Failed → ⊥) → CountsTextReads told told r
 counts_none told (Ok x) never = refl
 counts_none told (Err Failed) never = absurd (never refl)
 counts_none told (Err NoMemory) never = refl

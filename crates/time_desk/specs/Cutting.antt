@@ -39,8 +39,8 @@ pub record AreParts (kept : Kept) (parts : CutParts) : Type 0 where
 abbrev pub Cuts : Kept → ℕ → Type 0 → CutParts → Type 0
 Cuts kept point told parts = (place : ℕ) × (position kept.timeline point ≡ Some place) × (told → AreParts (cut kept place) parts)
 
--- Why there are no parts: the timeline does not have the point, exactly where it says so. Where it has it a read failed, exactly where it
--- says so, if something is to be read; and want of memory is free.
+-- Why there are no parts: the timeline does not have the point, exactly where it says so. Or it has it, and a read failed, exactly where it
+-- says so; no read fails where nothing is to be read. Want of memory is free.
 abbrev pub CutsNone : Kept → ℕ → DiskTold → DiskTold → CycleFault → Type 0
 CutsNone kept point old new (Point given) = (position kept.timeline point ≡ None) × (given ≡ point) × (new.failed_reads ≡ old.failed_reads)
 CutsNone kept point old new (Numbers next) = ⊥

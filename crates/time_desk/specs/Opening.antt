@@ -133,20 +133,20 @@ Finds image disk (Ok started) = IsStarted image disk started.0 started.1
 Finds image disk (Err fault) = Refuses image fault
 
 -- a call on the disk failed where the fault says so, and none did elsewhere
-abbrev pub FaultCounts : DiskTold → DiskTold → StartFault → Type 0
-FaultCounts old new NotFormatted = SameCounts old new
-FaultCounts old new (Damaged place) = SameCounts old new
-FaultCounts old new Disk = ReadFailed old new ⊎ WriteFailed old new
-FaultCounts old new NoMemory = SameCounts old new
+abbrev pub CountsOfFault : DiskTold → DiskTold → StartFault → Type 0
+CountsOfFault old new NotFormatted = SameCounts old new
+CountsOfFault old new (Damaged place) = SameCounts old new
+CountsOfFault old new Disk = ReadFailed old new ⊎ WriteFailed old new
+CountsOfFault old new NoMemory = SameCounts old new
 
-abbrev pub Counts : DiskTold → DiskTold → Result (Kept × ℕ) StartFault → Type 0
-Counts old new (Ok started) = SameCounts old new
-Counts old new (Err fault) = FaultCounts old new fault
+abbrev pub CountsOfStart : DiskTold → DiskTold → Result (Kept × ℕ) StartFault → Type 0
+CountsOfStart old new (Ok started) = SameCounts old new
+CountsOfStart old new (Err fault) = CountsOfFault old new fault
 
 -- A journal is opened: nothing is written, and a crash at any moment leaves what it could have left before.
 pub record Starts (old new : DiskTold) (result : Result (Kept × ℕ) StartFault) : Type 0 where
   pub found : old.honest → Finds old.content new result
-  pub counts : Counts old new result
+  pub counts : CountsOfStart old new result
   pub reliable : new.is_reliable ≡ old.is_reliable
   pub any_moment : old.honest → LeavesOnly old new old.images
   pub size : new.size ≡ old.size

@@ -10,7 +10,7 @@ ghost use Rattle.verb_bytes.specs.declared.journal.JournalRecord.TheVariants.{Ba
 ghost use Rattle.verb_bytes.specs.Spelling.{HasSpelling, record_bytes};
 ghost use Rattle.store_kept.specs.Kept.{IsRun};
 ghost use Rattle.store_kept.specs.Texts.{all_bodies, has_text_kept};
-ghost use Rattle.replay_crew.specs.Hearing.{Counts, HoldsOf, StoresOf, TellsAll};
+ghost use Rattle.replay_crew.specs.Hearing.{CountsTextReads, HoldsOf, StoresOf, TellsAll};
 ghost use Rattle.repair_desk.specs.Repairs.{position};
 ghost use Rattle.cycle_rules.specs.Cutting.{bodies_of, cut};
 ghost use Rattle.mail_desk.specs.Counting.{bare_item};
@@ -144,7 +144,7 @@ fn led_over<B: Bodies, L: Ledger>(
     requires held { AllByRecursion (HoldsOf (B.told bodies.old)) items }
     ensures heard { IfOk result (λ made. LedBy store.store items made.store) }
     ensures store { (B.told bodies.old).honest → AllByRecursion (StoresOf (B.told bodies.old)) items → IfOk result (λ made. made.store ≡ run store.store items) }
-    ensures reads { Counts (B.told bodies.old) (B.told bodies.new) result }
+    ensures reads { CountsTextReads (B.told bodies.old) (B.told bodies.new) result }
     ensures leads { B.leads bodies.old bodies.new }
 {
     let mut steps: Steps<L> = Steps::new(blank);
@@ -181,7 +181,7 @@ fn led_reading<B: Bodies>(
     requires held { AllByRecursion (HoldsOf (B.told bodies.old)) items.now }
     ensures heard { IfOk result (λ made. LedBy store.store items.now made.store) }
     ensures store { (B.told bodies.old).honest → AllByRecursion (StoresOf (B.told bodies.old)) items.now → IfOk result (λ made. made.store ≡ run store.store items.now) }
-    ensures reads { Counts (B.told bodies.old) (B.told bodies.new) result }
+    ensures reads { CountsTextReads (B.told bodies.old) (B.told bodies.new) result }
     ensures leads { B.leads bodies.old bodies.new }
 {
     match copies(alloc, items) {
@@ -223,7 +223,7 @@ fn led<B: Bodies>(
     ensures heard { IfOk result (λ made. LedBy store.store items.now made.store) }
     ensures store { (B.told bodies.old).honest → AllByRecursion (StoresOf (B.told bodies.old)) items.now → IfOk result (λ made. made.store ≡ run store.store items.now) }
     ensures due { IsErrOf result BodiesFault.Failed → are_unfiltered store.store items.now ≡ false }
-    ensures reads { Counts (B.told bodies.old) (B.told bodies.new) result }
+    ensures reads { CountsTextReads (B.told bodies.old) (B.told bodies.new) result }
     ensures leads { B.leads bodies.old bodies.new }
 {
     if none_looks(&store, items) {
@@ -256,7 +256,7 @@ fn led_behind<B: Bodies>(
     ensures store { (B.told bodies.old).honest → first.store.store ≡ store_at desk.now.kept first.count → IfOk result (λ made. made.store ≡ store_at desk.now.kept place) }
     ensures texts { IfOk result (λ made. IsTrue (all_bodies (has_text_kept desk.now.kept) made.store.boxes)) }
     ensures due { IsErrOf result BodiesFault.Failed → are_unfiltered first.store.store (drop first.count (take place desk.now.kept.timeline)) ≡ false }
-    ensures reads { Counts (B.told bodies.old) (B.told bodies.new) result }
+    ensures reads { CountsTextReads (B.told bodies.old) (B.told bodies.new) result }
     ensures leads { B.leads bodies.old bodies.new }
 {
     desk.stands();

@@ -92,7 +92,7 @@ pub fn deliveries_arrive()
         list_any (same_user u) (recipients kept.house (run kept.base before).conf to) ≡ true →
         is_discarded (run kept.base before).conf from to text ≡ false →
         Arrives kept before i later u (record { item = i.number; index = 0 }) }
-    ensures strays { (records : List JournalRecord) (kept : Kept) (before later : List Item) (i : Item) (from : List ℕ) (to : List (List ℕ)) (text : List ℕ) →
+    ensures unknown { (records : List JournalRecord) (kept : Kept) (before later : List Item) (i : Item) (from : List ℕ) (to : List (List ℕ)) (text : List ℕ) →
         state records ≡ Some kept → kept.timeline ≡ before ++ i ∷ later → i.deed ≡ Deliver from to text →
         some_unknown kept.house (run kept.base before).conf to ≡ true →
         is_discarded (run kept.base before).conf from to text ≡ false →

@@ -9,7 +9,7 @@ ghost use Rattle.repair_desk.specs.Repairs.{numbers_of};
 ghost use Rattle.touch_rules.specs.Table.{touches_of};
 ghost use Rattle.replay_plan.specs.Lines.{text_of_levels};
 ghost use Rattle.replay_plan.specs.Placing.{levels_of};
-ghost use Rattle.replay_crew.specs.Hearing.{Counts, HoldsOf, StoresOf, TellsAll};
+ghost use Rattle.replay_crew.specs.Hearing.{CountsTextReads, HoldsOf, StoresOf, TellsAll};
 ghost use Rattle.replay_crew.specs.Resolving.{AreResolvedFrom};
 ghost use Rattle.time_desk.specs.Planning.{BodiesCause, Plans, PlansNone, plan_at, plan_from, resolved, resolved_on};
 ghost use Rattle.time_desk.specs.Replaying.{reads_behind, some_deliver};
@@ -103,7 +103,7 @@ fn plan_copies<B: Bodies>(
     requires count { count ≤ length items.items }
     ensures text { (B.told bodies.old).honest → AllByRecursion (StoresOf (B.told bodies.old)) items.items
         → IfOk result (λ text. text ≡ plan_from (run store.now.store (take count items.items)) (drop count items.items)) }
-    ensures reads { Counts (B.told bodies.old) (B.told bodies.new) result }
+    ensures reads { CountsTextReads (B.told bodies.old) (B.told bodies.new) result }
     ensures leads { B.leads bodies.old bodies.new }
 {
     let mut items = items;
@@ -128,7 +128,7 @@ fn plan_items<B: Bodies>(
     requires count { count ≤ length items.now }
     ensures text { (B.told bodies.old).honest → AllByRecursion (StoresOf (B.told bodies.old)) items.now
         → IfOk result (λ text. text ≡ plan_from (run store.now.store (take count items.now)) (drop count items.now)) }
-    ensures reads { Counts (B.told bodies.old) (B.told bodies.new) result }
+    ensures reads { CountsTextReads (B.told bodies.old) (B.told bodies.new) result }
     ensures leads { B.leads bodies.old bodies.new }
 {
     match copies(alloc, items) {
@@ -149,7 +149,7 @@ fn plan_behind<B: Bodies>(
     requires serves { CanBegin desk.now.kept place first.now }
     requires texts { TellsAll (B.told bodies.old) desk.now.kept.timeline }
     ensures text { (B.told bodies.old).honest → first.now.store.store ≡ store_at desk.now.kept first.now.count → IfOk result (λ text. text ≡ plan_at desk.now.kept place) }
-    ensures reads { Counts (B.told bodies.old) (B.told bodies.new) result }
+    ensures reads { CountsTextReads (B.told bodies.old) (B.told bodies.new) result }
     ensures leads { B.leads bodies.old bodies.new }
 {
     desk.stands();
