@@ -1,7 +1,7 @@
 //! The texts of a desk, read where they lie in its journal.
-ghost use Rattle.std.specs.Prelude.{◌≡◌, ◌+◌, ◌≤◌, ℕ, Some, true, false, option_copied, IfOk, OnOk, IfErr, IsErrOf};
+ghost use Rattle.std.specs.Prelude.{◌≡◌, ◌+◌, ◌≤◌, ℕ, List, Some, true, false, option_copied, IfOk, OnOk, IfErr, IsErrOf, IsTrue};
 ghost use Rattle.std.specs.Option.{option_map_or};
-ghost use Rattle.verb_core.specs.Texts.{Rose};
+ghost use Rattle.verb_core.specs.Texts.{Gives, Rose};
 ghost use Rattle.seal_log.specs.Causes.{ReadAtCause};
 ghost use Rattle.desk_journal.specs.Telling.{HoldsHeld, IsPastRead, LeadsOn, ReadsOn, asked_of, is_readable, noted_in, reading_told};
 ghost use Rattle.desk_journal.specs.Going.{leads_on, leads_to_itself};
@@ -114,7 +114,13 @@ impl<'a, D: Disk> Bodies for Reading<'a, D> {
 
     ghost leads = { LeadsOn D.told };
 
-    fn text(&mut self, alloc: Global, body: Body) -> Result<Text, BodiesFault> {
+    fn text(&mut self, alloc: Global, body: Body) -> Result<Text, BodiesFault>
+        requires { IsTrue ((reading_told D.told self.old).holds body) }
+        ensures gives { Gives (reading_told D.told self.old) (reading_told D.told self.new) body result }
+        ensures leads { LeadsOn D.told self.old self.new }
+        // A text that the request asks for is given as it is, and not read.
+        ensures asked { (asked : List ℕ) → asked_of self.old.cycle self.old.replaces.now body ≡ Some asked → (self.new.failed ≡ self.old.failed) × IfOk result (λ text. text ≡ asked) }
+    {
         match asked(self.replaces, self.cycle, body) {
             Some(text) => copied(alloc, text),
             None => read_once(alloc, self.past, &mut self.failed, self.desk, body),
