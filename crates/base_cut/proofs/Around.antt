@@ -4,7 +4,6 @@ use Rattle.std.proofs.lemmas.List.{take_at, drop_at}
 use Rattle.std.proofs.lemmas.List.Concat.{flat_map-append}
 use Rattle.std.specs.Int.{w32, to_be_bytes}
 use Rattle.undo_base.specs.declared.limits.TheConstants.{MOST_RECIPIENTS}
-use Rattle.verb_core.specs.declared.item.Act.{Act}
 use Rattle.verb_core.specs.declared.item.Act.TheVariants.{Give}
 use Rattle.verb_core.specs.declared.item.Deed.{Deed}
 use Rattle.verb_core.specs.declared.item.Deed.TheVariants.{Deliver, Append, Act as Acts, Notice}
@@ -15,7 +14,7 @@ use Rattle.verb_core.specs.Items.{text_in}
 use Rattle.verb_bytes.specs.declared.journal.JournalRecord.TheVariants.{Text, Kept}
 use Rattle.verb_bytes.specs.Fields.{Field, bytes_of, ◌&◌, number_field, name_field, text_field, list_fields, flags_field, u32_field, moment_field, any_text_field, user_field, actor_field, most_of_four, record_kind, act_kind, deed_kind_to, byte_field}
 use Rattle.verb_bytes.specs.Places.{first_from, size_of, text_places_of}
-use Rattle.verb_bytes.specs.Spelling.{record_bytes, record_fields, shown_fields_within, shown_kind}
+use Rattle.verb_bytes.specs.Spelling.{record_bytes, record_fields, shown_fields_within}
 use Rattle.verb_bytes.proofs.Sizes.{size_both}
 use Rattle.base_cut.specs.Cutting.{parted, whole}
 

@@ -2,5 +2,6 @@ pub mod Streams
 pub mod Unfinished
 pub mod Writings
 pub mod Frames
+pub mod Gatherings
 pub mod Around
 pub mod Told

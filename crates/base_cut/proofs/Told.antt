@@ -13,7 +13,7 @@ use Rattle.verb_bytes.specs.Spelling.{record_bytes}
 use Rattle.base_cut.specs.declared.fault.CutFault.{CutFault}
 use Rattle.base_cut.specs.declared.fault.CutFault.TheVariants.{Read, Sink, NoMemory}
 use Rattle.base_cut.specs.declared.parts.CutParts.{CutParts}
-use Rattle.base_cut.specs.Cutting.{AreCut, IsGiven, IsKeptOf, IsTextOf, IsUnread, IsUnwritten, ReadFails, ReadsFor, ReadsTo, ReadsWell, body_of, cut_payloads, fault_of_read, texts_of, whole}
+use Rattle.base_cut.specs.Cutting.{AreCut, IsKeptOf, IsTextOf, IsUnread, IsUnwritten, ReadFails, ReadsFor, ReadsTo, ReadsWell, body_of, cut_payloads, fault_of_read, texts_of, whole}
 
 -- ---- the texts that were given
 

@@ -1,9 +1,9 @@
 -- What was written of payloads.
-use Rattle.std.proofs.Common.{◌≡◌, ◌⊎◌, inl, inr, ℕ, ◌<◌, List, [], ◌∷◌, ◌++◌, length, map, Result, Ok, Err, refl, sym, ◌∙◌, ap, subst, arith, append_assoc, length-append}
+use Rattle.std.proofs.Common.{◌≡◌, inl, inr, ℕ, ◌<◌, List, [], ◌∷◌, ◌++◌, length, map, Result, Ok, Err, refl, sym, ◌∙◌, ap, subst, arith, append_assoc, length-append}
 use Rattle.std.proofs.lemmas.List.{append-nil}
 use Rattle.std.proofs.lemmas.Result.{err_from_is_err_and}
 use Rattle.std.specs.Result.{IsErrAnd}
-use Rattle.std.specs.List.{AllZip, AllByRecursion}
+use Rattle.std.specs.List.{AllZip}
 use Rattle.undo_outside.specs.declared.fault.Fault.{Fault}
 use Rattle.undo_outside.specs.declared.fault.Fault.TheVariants as write
 use Rattle.undo_outside.specs.Calls.{SinkTold}
@@ -11,7 +11,7 @@ use Rattle.seal_log.specs.Journal.{frame, sealed, IsPayload}
 use Rattle.base_cut.specs.declared.fault.CutFault.{CutFault}
 use Rattle.base_cut.specs.declared.fault.CutFault.TheVariants.{Read, Sink, NoMemory}
 use Rattle.base_cut.specs.Writing.{PutsAll, Took, TookFront}
-use Rattle.base_cut.specs.Cutting.{HasBegun, IsRefused, IsUnfinished, IsUnwritten, Stops, Writes, WritesEach, WritesFirst, WritesFront, WritesSealed, WritesWhole, closed_journal, fault_of_write}
+use Rattle.base_cut.specs.Cutting.{IsRefused, IsUnwritten, Stops, Writes, WritesEach, WritesFirst, WritesFront, WritesSealed, WritesWhole, fault_of_write}
 use Rattle.base_cut.proofs.Streams.{longer, took_more, took_none}
 use Rattle.base_cut.proofs.Unfinished.{both_short, sealed_both, unfinished_behind, unfinished_frame}
 

@@ -1,5 +1,5 @@
 -- What a cut is: the records of a store whose past went into its base, as a journal. And what became of one that was written.
-use Rattle.std.specs.Prelude.{◌≡◌, ◌⊎◌, ◌<◌, ℕ, Bool, true, ◌&&◌, List, [], ◌∷◌, ◌++◌, length, map, is_some, unwrap_or, if◌then◌else◌, Option, Result, Ok, Err}
+use Rattle.std.specs.Prelude.{◌≡◌, ◌⊎◌, ◌<◌, ℕ, Bool, true, ◌&&◌, List, [], ◌∷◌, ◌++◌, length, map, is_some, unwrap_or, if◌then◌else◌, Result, Ok, Err}
 use Rattle.std.specs.List.{AllByRecursion, AllZip, list_all}
 use Rattle.std.specs.Int.{w32, to_be_bytes}
 use Rattle.undo_outside.specs.declared.fault.Fault.{Fault}
@@ -120,6 +120,11 @@ IsUnwritten NoMemory = Unit {0}
 abbrev pub Writes : SinkTold → SinkTold → List ℕ → Result (Unit {0}) CutFault → Type 0
 Writes old new bytes (Ok x) = Took old new bytes
 Writes old new bytes (Err fault) = TookFront (IsRefused fault) old new bytes
+
+-- what waits was written whole and waits no more, or waits still; or a first part of it was written, up to a write that was refused
+abbrev pub PassesOn : SinkTold → SinkTold → List ℕ → List ℕ → Result (Unit {0}) CutFault → Type 0
+PassesOn old new waiting left (Ok x) = (Took old new waiting × (left ≡ [])) ⊎ ((new ≡ old) × (left ≡ waiting))
+PassesOn old new waiting left (Err fault) = TookFront (IsRefused fault) old new waiting
 
 -- the sink took a first part of these bytes, and not all of them
 abbrev pub WritesFront : CutFault → SinkTold → SinkTold → List ℕ → Type 0

@@ -10,6 +10,7 @@ ghost use Rattle.base_cut.specs.Cutting.{IsGiven, IsKeptOf, IsTextOf, IsUnread, 
 
 use crate::fault::fault_of_read;
 use crate::framing::{write_first_payload, write_last_gate, write_payload, write_with_text};
+use crate::gathering::Gathered;
 use crate::{CutFault, CutParts};
 use std::alloc::Global;
 use undo_base::{NoMemory, Text};
@@ -73,10 +74,12 @@ fn write_texts<B: Bodies, W: Sink>(
     ensures wrote { WritesEach (IsTextOf (B.told bodies.old)) list.now (W.told out.old) (W.told out.new) result }
     ensures reads { ReadsFor B.told B.leads bodies.old bodies.new result }
 {
+    let mut gathered = Gathered::new(alloc);
     for body in list {
-        write_text(alloc, *body, bodies, out)?;
+        write_text(alloc, *body, bodies, &mut gathered)?;
+        gathered.write_many(out)?;
     }
-    Ok(())
+    gathered.write_all(out)
 }
 
 // ---- an item
@@ -159,10 +162,12 @@ fn write_kepts<B: Bodies, W: Sink>(
     ensures wrote { WritesEach (IsKeptOf (B.told bodies.old)) items.now (W.told out.old) (W.told out.new) result }
     ensures reads { ReadsFor B.told B.leads bodies.old bodies.new result }
 {
+    let mut gathered = Gathered::new(alloc);
     for item in items {
-        write_kept(alloc, item, bodies, out)?;
+        write_kept(alloc, item, bodies, &mut gathered)?;
+        gathered.write_many(out)?;
     }
-    Ok(())
+    gathered.write_all(out)
 }
 
 // ---- a cut
@@ -210,7 +215,8 @@ fn write_whole<B: Bodies, W: Sink>(
 }
 
 /// Writes a cut: the payloads of the Format and of the Base, the texts of the bodies and the later items, each behind an open gate, and
-/// a closed gate. A text is read as it is written, and kept no longer. A first byte is written before memory is wanted.
+/// a closed gate. A text is kept in memory until it is written, together with others where they are small. A first byte is written
+/// before memory is wanted.
 pub fn write_cut<B: Bodies, W: Sink>(
     alloc: Global,
     parts: &CutParts,

@@ -1,8 +1,6 @@
-use Rattle.std.proofs.Common.{◌++◌, List, ℕ, Result, Ok, Err, subst}
-use Rattle.std.specs.List.{AllZip}
+use Rattle.std.proofs.Common.{List, Ok, Err, subst}
 use Rattle.verb_core.specs.declared.item.Item.{Item}
 use Rattle.verb_core.specs.declared.mailbox.Body.{Body}
-use Rattle.base_cut.specs.declared.fault.CutFault.{CutFault}
 use Rattle.base_cut.specs.Cutting.{IsKeptOf, IsTextOf, WritesBehind, WritesEach}
 use Rattle.base_cut.proofs.Told.{each_kept_before, some_kept}
 use Rattle.base_cut.proofs.Writings.{at_exit, sealed_before, sealed_behind, some_payloads}

@@ -1,6 +1,5 @@
-use Rattle.std.proofs.Common.{◌∷◌, [], ◌++◌, List, ℕ, Result, Ok, Err, refl}
-use Rattle.base_cut.specs.declared.fault.CutFault.{CutFault}
-use Rattle.base_cut.specs.Cutting.{AreCut, IsKeptOf, IsTextOf, WritesCut}
+use Rattle.std.proofs.Common.{◌∷◌, [], ◌++◌, Ok, refl}
+use Rattle.base_cut.specs.Cutting.{IsKeptOf, IsTextOf, WritesCut}
 use Rattle.base_cut.proofs.Told.{some_kept, some_text}
 use Rattle.base_cut.proofs.Writings.{at_exit, sealed_behind, some_payloads, whole_before, whole_behind, whole_closed}
 use Rattle.base_cut.proofs.cutting.write_whole.Goals as goal

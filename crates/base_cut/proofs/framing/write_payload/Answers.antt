@@ -1,4 +1,4 @@
-use Rattle.std.proofs.Common.{◌∙◌, ◌∷◌, [], List, ℕ, inr, length, refl, subst}
+use Rattle.std.proofs.Common.{◌∙◌, ◌∷◌, [], List, ℕ, inr, refl, subst}
 use Rattle.base_cut.specs.declared.fault.CutFault.TheVariants.{NoMemory}
 use Rattle.base_cut.specs.Cutting.{Writes, WritesSealed}
 use Rattle.base_cut.proofs.Frames.{payload_bytes}
