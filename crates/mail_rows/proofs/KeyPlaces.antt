@@ -22,7 +22,7 @@ use Rattle.mail_rows.specs.Mail.{numbered, flags_set, all_flags_set}
 use Rattle.mail_rows.proofs.Indexes.{one_key}
 use Rattle.mail_rows.proofs.KeysSeen.{itself}
 
-same_back : (a b : Key) → same_key a b ≡ same_key b a
+pub same_back : (a b : Key) → same_key a b ≡ same_key b a
 same_back a b = both (same_key a b) (same_key b a) (λ h. ap (same_key b) (one_key a b h) ∙ itself b) (λ h. ap (same_key a) (one_key b a h) ∙ itself a)
   where
     both : (x y : Bool) → (x ≡ true → y ≡ true) → (y ≡ true → x ≡ true) → x ≡ y
@@ -31,7 +31,7 @@ same_back a b = both (same_key a b) (same_key b a) (λ h. ap (same_key b) (one_k
     both false false h k = refl
 
 -- a key is none below it, and none above it
-apart_below : (a b : Key) → key_cmp a b ≡ Less → same_key a b ≡ false
+pub apart_below : (a b : Key) → key_cmp a b ≡ Less → same_key a b ≡ false
 apart_below a b less = elim (same_key a b) as (λ t. same_key a b ≡ t → t ≡ false) [
   | true ↦ λ t. let e : key_cmp a b ≡ Equal = subst (λ (k : Key). key_cmp a k ≡ Equal) (one_key a b t) (tied_itself keys_total a) in absurd (less_equal (sym less ∙ e))
   | false ↦ λ t. refl
@@ -40,7 +40,7 @@ apart_below a b less = elim (same_key a b) as (λ t. same_key a b ≡ t → t �
     less_equal : ◌≡◌ {A = Ordering} Less Equal → ⊥
     less_equal h = true≢false (ap is_lt h)
 
-apart_above : (a b : Key) → key_cmp b a ≡ Less → same_key a b ≡ false
+pub apart_above : (a b : Key) → key_cmp b a ≡ Less → same_key a b ≡ false
 apart_above a b less = elim (same_key a b) as (λ t. same_key a b ≡ t → t ≡ false) [
   | true ↦ λ t. sym t ∙ ap (λ (k : Key). same_key k b) (one_key a b t) ∙ apart_below b b (subst (λ (k : Key). key_cmp b k ≡ Less) (one_key a b t) less)
   | false ↦ λ t. refl
@@ -56,7 +56,7 @@ all_above key (k ∷ ks) less q is = go (same_key q k) refl is (all_above key ks
 
 -- ---- rising keys, by place
 
-above_low : (low : Key) (es : List Entry) → keys_rise_from (Some low) es ≡ true → (j : ℕ) (d : Entry) → j < length es → key_cmp low (get_or es j d).key ≡ Less
+pub above_low : (low : Key) (es : List Entry) → keys_rise_from (Some low) es ≡ true → (j : ℕ) (d : Entry) → j < length es → key_cmp low (get_or es j d).key ≡ Less
 above_low low [] rise j d within = absurd (omega arith)
 above_low low (e ∷ es) rise zero d within = less_is (key_cmp low e.key) (first_so _ _ rise)
 above_low low (e ∷ es) rise (suc j) d within =
@@ -77,7 +77,7 @@ compared a b k less =
       | Greater ↦ λ e. index_at_most (key_cmp a k)
     ] refl
 
-any_none : (p : Entry → Bool) (es : List Entry) → ((j : ℕ) (d : Entry) → j < length es → p (get_or es j d) ≡ false) → list_any p es ≡ false
+pub any_none : (p : Entry → Bool) (es : List Entry) → ((j : ℕ) (d : Entry) → j < length es → p (get_or es j d) ≡ false) → list_any p es ≡ false
 any_none p [] none = refl
 any_none p (e ∷ es) none = rw (none 0 e (omega arith)) (any_none p es (λ j d lt. none (suc j) d (omega arith)))
 
@@ -139,7 +139,7 @@ beside_found (e ∷ es) key = ap (λ (o : Option Entry). cond (same_key key e.ke
 
 -- ---- changes
 
-or_false : (b : Bool) → (b || false) ≡ b
+pub or_false : (b : Bool) → (b || false) ≡ b
 or_false true = refl
 or_false false = refl
 

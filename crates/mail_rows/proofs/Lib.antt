@@ -3,6 +3,7 @@ pub mod MailLaws
 mod FixedRows
 mod Keys
 mod KeyPlaces
+mod Gone
 mod Indexes
 mod KeysSeen
 mod Patterns

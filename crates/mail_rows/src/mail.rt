@@ -1,10 +1,11 @@
 //! The mail of one mailbox: what comes to its end, what changes and what goes. Nothing here takes memory.
-ghost use Rattle.std.specs.Prelude.{◌≡◌, ◌+◌, ◌≤◌, ◌<◌, ◌^◌, [], ◌∷◌, ◌++◌, ◌&&◌, length, vec_len, vec_capacity};
-ghost use Rattle.verb_core.specs.KeyOrder.{keys_rise_from, last_key};
+ghost use Rattle.std.specs.Prelude.{◌≡◌, ◌+◌, ◌≤◌, ◌<◌, ◌^◌, [], ◌∷◌, ◌++◌, ◌&&◌, IsTrue, length, remove as left_at, vec_len, vec_capacity};
+ghost use Rattle.verb_core.specs.KeyOrder.{keys_rise, keys_rise_from, last_key};
 ghost use Rattle.verb_core.specs.Mailboxes.{no_mail, put_all, with_entries, emptied, expunged, without as left_out};
 ghost use Rattle.mail_rows.specs.Mail.{flags_set, all_flags_set};
 ghost use Rattle.mail_rows.specs.Mail.{numbered};
 
+use crate::places::key_place;
 use crate::{FlagChange, KeySet};
 use std::alloc::Global;
 use std::mem;
@@ -156,13 +157,45 @@ pub fn expunge(alloc: Global, mailbox: &mut Mailbox, keys: &KeySet)
     mailbox.entries = Entries::from_vec(list);
 }
 
+/// The entries of a list whose keys rise, but for the one at a place. Those behind it are moved in memory.
+fn without_place(mut list: Vec<Entry>, place: usize) -> Entries
+    requires rising { IsTrue (keys_rise list.items) }
+    requires within { place < length list.items }
+    ensures { result ≡ left_at list.items place }
+{
+    list.remove(place);
+    Entries::from_parts(list, true)
+}
+
+/// The entries of a list whose keys rise, but for that of a key, which is found by halves.
+fn left_by_halves(list: Vec<Entry>, key: Key) -> Entries
+    requires { IsTrue (keys_rise list.items) }
+    ensures { result ≡ left_out (key ∷ []) list.items }
+{
+    match key_place(list.as_slice(), key) {
+        None => Entries::from_parts(list, true),
+        Some(place) => without_place(list, place),
+    }
+}
+
+/// The entries of a list but for those of a key. One pass over the list.
+fn left_by_pass(mut list: Vec<Entry>, key: Key) -> Entries
+    ensures { result ≡ left_out (key ∷ []) list.items }
+{
+    list.retain(|entry| entry.key != key);
+    Entries::from_vec(list)
+}
+
 /// The entries of a key go.
 pub fn remove(alloc: Global, mailbox: &mut Mailbox, key: Key)
     ensures { mailbox.new ≡ with_entries (left_out (key ∷ [])) mailbox.old }
 {
-    let mut list = take_entries(alloc, mailbox).into_vec();
-    list.retain(|entry| entry.key != key);
-    mailbox.entries = Entries::from_vec(list);
+    let (list, in_order) = take_entries(alloc, mailbox).into_parts();
+    mailbox.entries = if in_order {
+        left_by_halves(list, key)
+    } else {
+        left_by_pass(list, key)
+    };
 }
 
 /// The entries of a mailbox but for those of these keys.
