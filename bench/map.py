@@ -1,7 +1,7 @@
 #!/usr/bin/env python3
 """Makes the groups of docs/MAP.md from crates.txt and the crates' heads: the drawing docs/map.svg, and the table between the page's two marks, which is
-the one table of the crates; and in docs/PROVED.md the groups, the order of the crates, and the line below
-each crate's heading that says what carries it, by its head.
+the one table of the crates; and in docs/PROVED.md the groups, the order of the crates, the line below
+each crate's heading that says what carries it, by its head, and a line for each function that is named there, with its clauses (bench/clauses.py).
 
 usage: bench/map.py            writes all three
        bench/map.py --check    says whether they are as crates.txt has it, and writes nothing
@@ -10,12 +10,15 @@ A group is what stands in crates.txt behind a line '# NAME: WHAT IT IS'. In the 
 uses, and its colour is its group's. A line goes to each crate that it uses, but for those that one of its others uses already.
 """
 import os, re, sys
+import clauses
 from xml.sax.saxutils import escape
 
 TOP = os.path.dirname(os.path.dirname(os.path.abspath(__file__)))
 PAGE, DRAWING, PROVED, CRATES = (os.path.join(TOP, *path) for path in (('docs', 'MAP.md'), ('docs', 'map.svg'), ('docs', 'PROVED.md'), ('crates.txt',)))
 BEGIN_CRATES, END_CRATES = '<!-- crates, by bench/map.py -->\n', '<!-- end of the crates -->'
 BEGINS, ENDS = '<!-- groups, by bench/map.py -->\n', '<!-- end of the groups -->'
+RULES = {'ground': 'outside journal', 'protocols, as bytes': 'dialogs console', 'what mail is': 'store', 'on disk': 'journal', 'the rules of undo': 'undo replay', 'the doing of it': 'undo replay',
+    'the store in use': 'journal undo', 'dialogs': 'dialogs console', 'the program': 'machine', 'laws': 'undo journal', 'tests': 'repository'}   # the pages below docs/details that have a group's rules
 COLOURS = 'e6e9ee dceefb d9f2e3 fdeccb f6dcdc e9dff5 d3f0ef fbe3f1 eef0c8 dfe3fb f3f5f8'.split()   # a group's, in their order; the last is the tests'
 WIDE, HIGH, ACROSS, DOWN, LEFT = 118, 26, 128, 78, 40   # a box, and the distance from one to the next
 
@@ -82,10 +85,13 @@ def proved():
     front, found, rest = open(PROVED).read().partition(BEGIN_CRATES)
     inner, ends, back = rest.partition(END_CRATES)
     if not (found and ends): sys.exit(f'{PROVED} lacks its two marks')
-    said = {name: re.sub(r'^What carries it: .*\n\n', '', body.strip('\n') + '\n') for name, body in re.findall(r'^### (\w+)\n\n(.*?)(?=^##|\Z)', inner, re.M | re.S)}
+    said = {name: clauses.IS_ROW.sub('', re.sub(r'^What carries it: .*\n\n', '', body.strip('\n') + '\n')) for name, body in re.findall(r'^### (\w+)\n\n(.*?)(?=^##|\Z)', inner, re.M | re.S)}
     wanted = [name for _, _, names in groups() for name in names]
     if set(said) != set(wanted): sys.exit(f'docs/PROVED.md: its crates are not those of crates.txt: {sorted(set(wanted) ^ set(said))}')
-    crate = lambda name: f'### {name}\n\n' + (f'{carried(name)}\n\n' if carried(name) else '') + said[name]
+    def crate(name):
+        rows = clauses.rows(name, carried(name))
+        between = '' if said[name].startswith('- ') or not rows else '\n'
+        return f'### {name}\n\n' + (f'{carried(name)}\n\n' if carried(name) else '') + ''.join(f'{row}\n' for row in rows) + between + said[name].lstrip('\n')
     return front + BEGIN_CRATES + '\n'.join(f'## {group[0].upper() + group[1:]}: {what}\n\n' + '\n'.join(crate(name) for name in names) for group, what, names in groups()) + END_CRATES + back
 
 def places(uses, layer, lines):
@@ -123,7 +129,7 @@ def drawing(uses):
 def table(uses):
     lines, rows = straight(uses), ['| Crate | What it is | Stands on |', '|---|---|---|']
     for group, what, names in groups():
-        rows.append(f'| **{group}** | *{what}* | |')
+        rows.append(f'| **{group}** | *{what}* | *rules: {", ".join(f"details/{page}.md" for page in RULES[group].split())}* |')
         for name in names: rows.append(f'| {name} | {what_it_is(name)} | {", ".join(lines[name])} |')
     return '\n'.join(rows) + '\n'
 

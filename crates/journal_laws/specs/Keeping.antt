@@ -1,5 +1,5 @@
--- What a user who keeps mail by UID, and an operator who must account for every message, may rely on: in every state that a run leaves, be it
--- at a moment or by a crash.
+-- What a user who keeps mail by UID may rely on, and an operator who must account for every message. It is so in every state that a run
+-- leaves, be it at a moment or by a crash.
 use Rattle.std.specs.Prelude.{◌≡◌, ◌≢◌, ◌⊎◌, ℕ, List, ◌∷◌, ◌++◌, take, Some, IsSome}
 use Rattle.undo_base.specs.declared.keys.Key.{Key}
 use Rattle.undo_base.specs.declared.keys.User.{User}

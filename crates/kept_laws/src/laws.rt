@@ -20,8 +20,8 @@ use desk_journal::laws::fronts_are_sound;
 use time_desk::permanence::{records_let_uids_last, states_are_sound};
 use verb_core::laws::mail_is_kept;
 
-/// The items that a journal's records leave, those that cycles brought in and changed among them, can be kept again without their texts:
-/// where its Kept has a frame, that has a spelling.
+/// The items that a journal's records leave can be kept again without their texts, those that cycles brought in and changed among them.
+/// Where an item's Kept has a frame, it has a spelling.
 pub fn items_can_be_kept_again()
     ensures { (records : List JournalRecord) (kept : Kept) → state records ≡ Some kept →
         AllByRecursion (λ (i : Item). HasFrame (KeptRecord i) → CanBeKeptAgain i) kept.timeline }
@@ -45,9 +45,9 @@ pub fn bases_can_be_recorded()
     rows_make_valid_stores();
 }
 
-/// What a journal's records leave can be written, cut at a place, just where each record of the cut has a frame and eight bytes hold the
-/// next UID of each mailbox of its base. So a cut lacks a spelling, for which it ends as for want of memory however often it is asked for,
-/// in no other case.
+/// What a journal's records leave can be written, cut at a place, just where each record of the cut has a frame and eight bytes hold each
+/// next UID of its base. So a cut lacks a spelling in no other case; where it does it ends as for want of memory, however often it is asked
+/// for.
 pub fn cuts_can_be_written()
     ensures when { (records : List JournalRecord) (kept : Kept) (place : ℕ) → state records ≡ Some kept →
         AllByRecursion IsPayload (payloads_of (cut_records kept place)) → UidsFit (base_at kept place) → CanBeWritten kept place }

@@ -15,7 +15,7 @@ ghost use Rattle.privacy_laws.specs.Agreeing.{Agree};
 ghost use Rattle.privacy_laws.specs.Clients.{IsFetcherOf, line_is_of};
 ghost use Rattle.privacy_laws.specs.Told.{SameTurn};
 
-/// A line comes from a POP3 client, by which a user is logged in or logs in, over two stores that agree on that user, where in both or in none another
+/// A line comes from a POP3 client, by which a user is logged in or logs in. It comes over two stores that agree on that user; in both or in none another
 /// session has the user's maildrop. Then it is told the same and has the same dialog, whatever hinders the turn, and the stores agree again.
 pub fn pop_clients_are_told_of_their_own_mail()
     ensures { (house : House) (u : User) (hindrance : Hindrance) (at : ℕ) (k l : Kept) (others beside : Seats) (d : TheDialog) (line : SmtpLine) →

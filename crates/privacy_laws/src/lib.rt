@@ -2,7 +2,7 @@
 //!
 //! In specs/, `Agreeing` says when two stores in use agree on a user, `Clients` whose connection it is, `Told` what two events have in common, and
 //! `Others` what other users do. `clients` says that an IMAP client is told the same in two states that agree on its user, `fetchers` the same of a
-//! POP3 client, and `others` that what other users do leaves the agreement. What carries the crate: `imap_clients_are_told_of_their_own_mail`.
+//! POP3 client. `others` says that what other users do leaves the agreement. What carries the crate: `imap_clients_are_told_of_their_own_mail`.
 #![tactic(auto)]
 
 mod clients;

@@ -571,7 +571,7 @@ fn cut_in<D: Disk>(
 impl<D: Disk> Desk<D> {
     /// What a cut at a point is made of: its past up to there becomes the base of a new journal, and the later items are kept. Each text
     /// that is asked for is held by this desk. At the last item its store is at hand. Else it begins with the newest snapshot at or
-    /// before the point, and where a filter may look at a text each delivery's text behind that is read, once; at `Disk` a read
+    /// before the point; where a filter may look at a text each delivery's text behind that is read, once. At `Disk` a read
     /// failed, and a later call may succeed. Nothing changes, and nothing is written. In time that grows as the search for the point,
     /// the mailboxes, the bodies times the logarithm of their number, the items, and these texts.
     pub fn cut_parts(&mut self, alloc: Global, point: u32) -> Result<CutParts, CycleFault>
