@@ -120,10 +120,8 @@ fn read_helo(alloc: Global, argument: &[u8]) -> Result<SmtpCommand, SmtpRefused>
     if !is_client_name(argument) {
         return Err(SmtpRefused::Argument);
     }
-    match Name::of(alloc, argument) {
-        Ok(client) => Ok(SmtpCommand::Helo { client }),
-        Err(_) => Err(SmtpRefused::NoMemory),
-    }
+    let client = Name::of(alloc, argument)?;
+    Ok(SmtpCommand::Helo { client })
 }
 
 #[tactic(auto, using(crate::proofs::Named::client_name))]
@@ -133,19 +131,15 @@ fn read_ehlo(alloc: Global, argument: &[u8]) -> Result<SmtpCommand, SmtpRefused>
     if !is_client_name(argument) {
         return Err(SmtpRefused::Argument);
     }
-    match Name::of(alloc, argument) {
-        Ok(client) => Ok(SmtpCommand::Ehlo { client }),
-        Err(_) => Err(SmtpRefused::NoMemory),
-    }
+    let client = Name::of(alloc, argument)?;
+    Ok(SmtpCommand::Ehlo { client })
 }
 
 fn read_noop(alloc: Global, argument: &[u8]) -> Result<SmtpCommand, SmtpRefused>
     ensures { ReadsCommand (noop_of argument.now) result }
 {
-    match Text::of(alloc, argument) {
-        Ok(rest) => Ok(SmtpCommand::Noop { rest }),
-        Err(_) => Err(SmtpRefused::NoMemory),
-    }
+    let rest = Text::of(alloc, argument)?;
+    Ok(SmtpCommand::Noop { rest })
 }
 
 fn read_vrfy(alloc: Global, argument: &[u8]) -> Result<SmtpCommand, SmtpRefused>
@@ -154,10 +148,8 @@ fn read_vrfy(alloc: Global, argument: &[u8]) -> Result<SmtpCommand, SmtpRefused>
     if argument.is_empty() {
         return Err(SmtpRefused::Argument);
     }
-    match Text::of(alloc, argument) {
-        Ok(what) => Ok(SmtpCommand::Vrfy { what }),
-        Err(_) => Err(SmtpRefused::NoMemory),
-    }
+    let what = Text::of(alloc, argument)?;
+    Ok(SmtpCommand::Vrfy { what })
 }
 
 /// Why what follows a path is refused, if it is.
@@ -174,10 +166,8 @@ fn read_tail(tail: &[u8]) -> Option<SmtpRefused>
 fn make_mail(alloc: Global, path: &[u8]) -> Result<SmtpCommand, SmtpRefused>
     ensures { ReadsCommand (Ok (SmtpCommand.Mail path.now)) result }
 {
-    match Text::of(alloc, path) {
-        Ok(path) => Ok(SmtpCommand::Mail { path }),
-        Err(_) => Err(SmtpRefused::NoMemory),
-    }
+    let path = Text::of(alloc, path)?;
+    Ok(SmtpCommand::Mail { path })
 }
 
 fn read_mail(alloc: Global, argument: &[u8]) -> Result<SmtpCommand, SmtpRefused>
@@ -197,13 +187,11 @@ fn make_postmaster(alloc: Global, path: &[u8]) -> Result<SmtpCommand, SmtpRefuse
     requires { is_name path.now ≡ true }
     ensures { ReadsCommand (Ok (SmtpCommand.Rcpt path.now None)) result }
 {
-    match Name::of(alloc, path) {
-        Ok(local) => Ok(SmtpCommand::Rcpt {
-            local,
-            domain: None,
-        }),
-        Err(_) => Err(SmtpRefused::NoMemory),
-    }
+    let local = Name::of(alloc, path)?;
+    Ok(SmtpCommand::Rcpt {
+        local,
+        domain: None,
+    })
 }
 
 fn make_names(alloc: Global, local: &[u8], domain: &[u8]) -> Result<SmtpCommand, NoMemory>
@@ -228,14 +216,9 @@ fn make_rcpt(alloc: Global, path: &[u8]) -> Result<SmtpCommand, SmtpRefused>
     if !has(path, b'@') {
         return make_postmaster(alloc, path);
     }
-    match make_names(
-        alloc,
-        before_the_last(path, b'@'),
-        behind_the_last(path, b'@'),
-    ) {
-        Ok(command) => Ok(command),
-        Err(_) => Err(SmtpRefused::NoMemory),
-    }
+    let local = before_the_last(path, b'@');
+    let domain = behind_the_last(path, b'@');
+    Ok(make_names(alloc, local, domain)?)
 }
 
 fn find_recipient(rest: &[u8]) -> Option<&[u8]>
