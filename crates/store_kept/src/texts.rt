@@ -206,9 +206,8 @@ impl BaseTexts {
         ensures texts { texts_come self.new ≡ with_base_text body text.now (texts_come self.old) }
         ensures names { (other : TheBody) → is_named self.new other ≡ is_named self.old other }
     {
-        match self.find(body) {
-            Ok(place) => put_row(&mut self.rows, place, (body, Some(PastText::of(text)))),
-            Err(_) => unreachable!(),
+        if let Ok(place) = self.find(body) {
+            put_row(&mut self.rows, place, (body, Some(PastText::of(text))));
         }
     }
 

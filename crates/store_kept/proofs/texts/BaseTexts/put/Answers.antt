@@ -1,4 +1,4 @@
-use Rattle.std.proofs.Common.{◌≡◌, ◌∙◌, ℕ, List, Some, true, ap, get_or, is_some, None, set, subst, sym, true≢false}
+use Rattle.std.proofs.Common.{◌≡◌, ◌∙◌, ℕ, List, Some, true, ap, set, subst}
 use Rattle.verb_core.specs.declared.mailbox.Body.{Body}
 use Rattle.store_kept.specs.Kept.{with_base_text}
 use Rattle.store_kept.specs.Naming.{NamedTexts, are_rising, is_named, texts_come, with_row}
@@ -17,12 +17,9 @@ put_is c =
 pub invariant_of-self : goal.invariant_of-self
 invariant_of-self c = ap are_rising (put_is c) ∙ rising_put c.args.body (Some c.of.result) c.args.self.now (rising c)
 
-pub returns-clause-texts : goal.returns-clause-texts
-returns-clause-texts c =
+pub returns-in-Ok-clause-texts : goal.returns-in-Ok-clause-texts
+returns-in-Ok-clause-texts c =
     ap texts_come (put_is c) ∙ come_text c.args.body c.of.result c.args.self.now (rising c) ∙ ap (λ (text : List ℕ). with_base_text c.args.body text (texts_come c.args.self.now)) c.of.ensures
 
-pub returns-clause-names : goal.returns-clause-names
-returns-clause-names c = λ other. ap (λ (named : NamedTexts). is_named named other) (put_is c) ∙ still_named c.args.body (Some c.of.result) c.args.self.now c.requires other
-
-pub unreachable-requires : goal.unreachable-requires
-unreachable-requires c = absurd (true≢false (sym c.requires ∙ ap is_some c.in-Err.ensures.none.none))
+pub returns-in-Ok-clause-names : goal.returns-in-Ok-clause-names
+returns-in-Ok-clause-names c = λ other. ap (λ (named : NamedTexts). is_named named other) (put_is c) ∙ still_named c.args.body (Some c.of.result) c.args.self.now c.requires other
