@@ -2,7 +2,7 @@
 //!
 //! `note` is what is known of a text. `rows` keeps the notes in the order in which the bodies came to be, so that a new one goes
 //! to the end. `reading` reads a text where its note says. `marks` keeps the places of snapshots by their positions. `section`,
-//! which mail_sections has, is what is asked of a text. What carries the crate: `Shelf::find` and `Shelf::size` tell the last
+//! which mail_sections has, is what is asked of a text. `room` puts an element into a list that has room for it. What carries the crate: `Shelf::find` and `Shelf::size` tell the last
 //! note of a body and its length. `Shelf::text`, clause `payload`, gives what stands there in the payload on the disk.
 //! `Shelf::newest_at_or_before` tells the last snapshot that is not behind a position; it is asked for by the interface, and the
 //! program calls `Shelf::marks_at_or_before`.
@@ -11,8 +11,10 @@
 mod marks;
 mod note;
 mod reading;
+mod room;
 mod rows;
 
 pub use mail_sections::section;
 pub use note::Note;
+pub use room::insert_within;
 pub use rows::Shelf;

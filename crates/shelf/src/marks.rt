@@ -3,7 +3,7 @@ ghost use Rattle.std.specs.Prelude.{◌≡◌, ◌≤◌, ◌<◌, ◌+◌, ◌=
 ghost use Rattle.shelf.specs.Marks as spec;
 ghost use Rattle.shelf.specs.Marks.{MarksRise, newest, with_mark};
 
-use crate::Shelf;
+use crate::{Shelf, insert_within};
 use seal_log::Place;
 use undo_base::NoMemory;
 
@@ -45,10 +45,7 @@ fn put_mark(marks: &mut Vec<(u32, Place)>, position: u32, place: Place)
 {
     drop_mark(marks, position);
     let at = count_before(marks.as_slice(), position);
-    match marks.insert(at, (position, place)) {
-        Ok(()) => {}
-        Err(_) => unreachable!(),
-    }
+    insert_within(marks, at, (position, place));
 }
 
 impl Shelf {

@@ -4,7 +4,7 @@ ghost use Rattle.shelf.specs.Notes as spec;
 ghost use Rattle.shelf.specs.Notes.{NotesOnly, note_of, size_of};
 ghost use Rattle.shelf.specs.Rows.{made, IsAt, IsGapFor};
 
-use crate::Note;
+use crate::{Note, insert_within};
 use seal_log::Place;
 use std::alloc::Global;
 use std::marker::Model;
@@ -114,10 +114,7 @@ impl Shelf {
         ensures marks { self.new.marks ≡ self.old.marks }
         ensures keeps { self.new.keeps ≡ self.old.keeps }
     {
-        match self.rows.insert(at, (body, note)) {
-            Ok(()) => {}
-            Err(_) => unreachable!(),
-        }
+        insert_within(&mut self.rows, at, (body, note));
     }
 
     /// Where the body's note is, or where it would go.

@@ -14,7 +14,7 @@ count_before-at-requires c =
 pub returns-clause-items : goal.returns-clause-items
 returns-clause-items c =
     let left = c.as_slice.ensures.value in
-    c.in-Ok.ensures.items
+    c.insert_within.ensures.items
     ∙ put_between c.args.position c.args.place c.args.marks.now.items c.drop_mark.new.marks.items c.count_before-at.result c.drop_mark.ensures.items
     (ap (take c.count_before-at.result) (sym left) ∙ c.count_before-at.ensures.front ∙ ap (filter (λ (m : ℕ × Place). nat_lt m.0 c.args.position)) left)
     (ap (drop c.count_before-at.result) (sym left) ∙ c.count_before-at.ensures.rest ∙ ap (filter (λ (m : ℕ × Place). not (nat_lt m.0 c.args.position))) left)
