@@ -1,6 +1,6 @@
 //! Items in order, found by their numbers.
 ghost use Rattle.std.specs.Prelude.{◌≡◌, ◌<◌, ◌≤◌, ℕ, [], ◌∷◌, ◌++◌, ◌+◌, ◌-◌, drop, filter, length, nat_lt, take, OnOk, option_copied, vec_len, vec_capacity};
-ghost use Rattle.std.specs.List.{AllByRecursion, insert};
+ghost use Rattle.std.specs.List.{AllByRecursion};
 ghost use Rattle.std.specs.List.Sorted.{IsNonDecreasingBy, IsPermutation};
 ghost use Rattle.verb_core.specs.declared.item.Item.{Item as TheItem};
 ghost use Rattle.verb_core.specs.Items.{NumbersApart};
@@ -8,6 +8,7 @@ ghost use Rattle.store_kept.specs.Founding.{has_number};
 ghost use Rattle.mail_desk.specs.Places.{HasPlaces, IsPlaceAmong};
 ghost use Rattle.mail_desk.specs.Timeline.{item_of};
 
+use shelf::insert_within;
 use std::alloc::Global;
 use std::marker::Model;
 use stored_items::{StoredItem, StoredItems};
@@ -160,7 +161,7 @@ impl Numbered {
         let row = (number_of(&item), self.items.len());
         let place = place_of(self.places.as_slice(), row.0);
         insert_within(&mut self.places, place, row);
-        push_within(&mut self.items, item);
+        self.items.push_reserved(item);
     }
 
     /// Adds an item of a higher number than all before it, for which there is room.
@@ -170,8 +171,8 @@ impl Numbered {
         ensures { self.new.items ≡ self.old.items ++ item ∷ [] }
     {
         let row = (number_of(&item), self.items.len());
-        push_within(&mut self.places, row);
-        push_within(&mut self.items, item);
+        self.places.push_reserved(row);
+        self.items.push_reserved(item);
     }
 }
 
@@ -224,12 +225,13 @@ fn place_all(items: &mut Vec<StoredItem>, places: &mut Vec<(u32, usize)>, more: 
 }
 
 /// Moves the items behind a place behind others, where there is room for them.
-fn move_behind(items: &mut Vec<StoredItem>, place: usize, into: &mut Vec<StoredItem>)
+pub(crate) fn move_behind<T: Drop>(items: &mut Vec<T>, place: usize, into: &mut Vec<T>)
     requires place { place ≤ length items.old.items }
     requires room { vec_len into.old + (length items.old.items - place) ≤ vec_capacity into.old }
     ensures items { items.new.items ≡ take place items.old.items }
     ensures capacity { vec_capacity items.new ≡ vec_capacity items.old }
     ensures into { into.new.items ≡ into.old.items ++ drop place items.old.items }
+    ensures room { vec_capacity into.new ≡ vec_capacity into.old }
 {
     for item in items.drain(place..) {
         into.push_reserved(item);
@@ -242,27 +244,4 @@ fn sort(places: &mut Vec<(u32, usize)>)
     ensures same { IsPermutation places.old.items places.new.items }
 {
     places.sort_unstable_by_key(|row| row.0);
-}
-
-/// Adds an element for which there is room.
-pub(crate) fn push_within<T: Drop>(list: &mut Vec<T>, element: T)
-    requires { vec_len list.old < vec_capacity list.old }
-    ensures { list.new.items ≡ list.old.items ++ element ∷ [] }
-{
-    match list.push(element) {
-        Ok(()) => {}
-        Err(_) => unreachable!(),
-    }
-}
-
-/// Puts an element at a place, where there is room for one.
-fn insert_within<T: Drop>(list: &mut Vec<T>, place: usize, element: T)
-    requires room { vec_len list.old < vec_capacity list.old }
-    requires place { place ≤ vec_len list.old }
-    ensures { list.new.items ≡ insert list.old.items place element }
-{
-    match list.insert(place, element) {
-        Ok(()) => {}
-        Err(_) => unreachable!(),
-    }
 }

@@ -5,8 +5,10 @@ ghost use Rattle.std.specs.Ordering.{eq_by_cmp};
 ghost use Rattle.verb_core.specs.Boxes.{box_cmp, box_of, is_rising, row_at, has_row, add_row, drop_row};
 ghost use Rattle.mail_desk.specs.Stamping.{HasSpare, all_changed, begins_with, changed, is_later, restamped, stands_before};
 
+use crate::numbered::move_behind;
 use crate::restamp::{StampChange, StampChanges};
 use box_store::Move;
+use shelf::insert_within;
 use std::alloc::Global;
 use std::cmp::Ordering;
 use std::mem;
@@ -92,20 +94,6 @@ pub(crate) fn push_stamp(
 
 // ---- one stamp
 
-/// Puts a row at a place. There is room for it.
-fn insert_row(rows: &mut Vec<Row>, place: usize, row: Row)
-    requires room { vec_len rows.old < vec_capacity rows.old }
-    requires place { place ≤ length rows.old.items }
-    ensures rows { rows.new.items ≡ insert rows.old.items place row }
-    ensures len { vec_len rows.new ≤ vec_len rows.old + 1 }
-    ensures capacity { vec_capacity rows.old ≤ vec_capacity rows.new }
-{
-    match rows.insert(place, row) {
-        Ok(()) => {}
-        Err(_) => unreachable!(),
-    }
-}
-
 /// Gives a mailbox the number as its stamp. There is room for a row.
 #[tactic(auto, using(crate::proofs::RowPlaces::place_taken, crate::proofs::RowPlaces::place_within, crate::proofs::RowPlaces::row_set, crate::proofs::RowPlaces::row_inserted))]
 fn put_row(rows: &mut Vec<Row>, id: BoxId, number: u32)
@@ -119,7 +107,7 @@ fn put_row(rows: &mut Vec<Row>, id: BoxId, number: u32)
     if is_first(after(rows.as_slice(), place), id.user, &id.name) {
         rows[place] = (id, number);
     } else {
-        insert_row(rows, place, (id, number));
+        insert_within(rows, place, (id, number));
     }
 }
 
@@ -245,10 +233,7 @@ fn put_back(rows: &mut Vec<Row>, mut aside: Vec<Row>)
     ensures { rows.new.items ≡ rows.old.items ++ reverse aside.items }
 {
     aside.reverse();
-    match rows.append(&mut aside) {
-        Ok(()) => {}
-        Err(_) => unreachable!(),
-    }
+    move_behind(&mut aside, 0, rows);
 }
 
 /// What becomes of some stamps, while the rows of later users lie aside: each change shifts the user's own rows alone.
@@ -310,10 +295,8 @@ fn with_room(mut rows: Vec<Row>, mut spare: Vec<Row>, count: usize) -> (Vec<Row>
     if count <= rows.capacity() - rows.len() {
         return (rows, spare);
     }
-    match spare.append(&mut rows) {
-        Ok(()) => (spare, rows),
-        Err(_) => unreachable!(),
-    }
+    move_behind(&mut rows, 0, &mut spare);
+    (spare, rows)
 }
 
 fn change_some(stamps: &mut Stamps, changes: StampChanges)

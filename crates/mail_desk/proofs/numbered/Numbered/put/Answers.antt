@@ -13,6 +13,6 @@ invariant_of-self c =
     let place : c.len.result ≡ length d.items.items = omega (arith, c.len.ensures, d.items.ok.0) in
     let among : IsPlaceAmong item.number d.places.items at =
     subst (λ (number : ℕ). IsPlaceAmong number d.places.items at) c.number_of.ensures (subst (λ (rows : List (ℕ × ℕ)). IsPlaceAmong c.number_of.result rows at) c.as_slice.ensures.value c.place_of-place.ensures) in
-    let rows : c.insert_within.new.list.items ≡ insert d.places.items at (item.number, length d.items.items) = c.insert_within.ensures ∙ (λ j. insert d.places.items at (c.number_of.ensures j, place j)) in
-    subst (λ (rs : List (ℕ × ℕ)). IsIndex rs c.push_within.new.list.items) (sym rows)
-    (subst (λ (t : List Item). IsIndex (insert d.places.items at (item.number, length d.items.items)) t) (sym c.push_within.ensures) (index_put d.places.items d.items.items item at c.self.invariant among))
+    let rows : c.insert_within.new.list.items ≡ insert d.places.items at (item.number, length d.items.items) = c.insert_within.ensures.items ∙ (λ j. insert d.places.items at (c.number_of.ensures j, place j)) in
+    subst (λ (rs : List (ℕ × ℕ)). IsIndex rs c.push_reserved.new.self.items) (sym rows)
+    (subst (λ (t : List Item). IsIndex (insert d.places.items at (item.number, length d.items.items)) t) (sym c.push_reserved.ensures.items) (index_put d.places.items d.items.items item at c.self.invariant among))
