@@ -128,7 +128,7 @@ fn fault_of(fault: SealFault) -> ActFault
     match fault {
         SealFault::Disk => ActFault::Disk,
         SealFault::NoMemory => ActFault::NoMemory,
-        SealFault::Closed => unreachable!(),
+        SealFault::Closed => ActFault::Closed,
     }
 }
 

@@ -20,10 +20,9 @@ use verb_core::{Conf, House};
 fn check_empty<D: Disk>(disk: &mut D) -> Result<(), MakeFault>
     ensures { LooksEmpty (D.told disk.old) (D.told disk.new) result }
 {
-    match disk.len() {
-        Ok(0) => Ok(()),
-        Ok(_) => Err(MakeFault::NotEmpty),
-        Err(_) => Err(MakeFault::Disk),
+    match disk.len()? {
+        0 => Ok(()),
+        _ => Err(MakeFault::NotEmpty),
     }
 }
 

@@ -7,8 +7,8 @@ ghost use Rattle.desk_journal.specs.Records.{is_spelled};
 use std::alloc::Global;
 use undo_base::{Copies, Name, NoMemory, Text};
 use verb_bytes::{
-    CycleAsk, JournalRecord, Unwritten, spell_act, spell_cycle, spell_item, spell_record,
-    spell_upgrade, spell_withdraw,
+    CycleAsk, JournalRecord, spell_act, spell_cycle, spell_item, spell_record, spell_upgrade,
+    spell_withdraw,
 };
 use verb_core::{Act, Conf, House, Item};
 
@@ -19,8 +19,7 @@ pub fn item_bytes(alloc: Global, item: &Item) -> Result<Text, NoMemory>
 {
     match spell_item(alloc, item) {
         Ok(bytes) => Ok(bytes),
-        Err(Unwritten::Unspelled) => Err(NoMemory),
-        Err(Unwritten::NoMemory) => Err(NoMemory),
+        Err(_) => Err(NoMemory),
     }
 }
 
@@ -31,8 +30,7 @@ pub fn act_bytes(alloc: Global, number: u32, at: u64, act: &Act) -> Result<Text,
 {
     match spell_act(alloc, number, at, act) {
         Ok(bytes) => Ok(bytes),
-        Err(Unwritten::Unspelled) => Err(NoMemory),
-        Err(Unwritten::NoMemory) => Err(NoMemory),
+        Err(_) => Err(NoMemory),
     }
 }
 
@@ -43,8 +41,7 @@ pub fn cycle_bytes(alloc: Global, number: u32, at: u64, ask: &CycleAsk) -> Resul
 {
     match spell_cycle(alloc, number, at, ask) {
         Ok(bytes) => Ok(bytes),
-        Err(Unwritten::Unspelled) => Err(NoMemory),
-        Err(Unwritten::NoMemory) => Err(NoMemory),
+        Err(_) => Err(NoMemory),
     }
 }
 
@@ -55,8 +52,7 @@ pub fn upgrade_bytes(alloc: Global, at: u64) -> Result<Text, NoMemory>
 {
     match spell_upgrade(alloc, at) {
         Ok(bytes) => Ok(bytes),
-        Err(Unwritten::Unspelled) => Err(NoMemory),
-        Err(Unwritten::NoMemory) => Err(NoMemory),
+        Err(_) => Err(NoMemory),
     }
 }
 
@@ -73,8 +69,7 @@ pub fn withdraw_bytes(
 {
     match spell_withdraw(alloc, number, at, key, of) {
         Ok(bytes) => Ok(bytes),
-        Err(Unwritten::Unspelled) => Err(NoMemory),
-        Err(Unwritten::NoMemory) => Err(NoMemory),
+        Err(_) => Err(NoMemory),
     }
 }
 
@@ -85,8 +80,7 @@ fn record_text(alloc: Global, what: &JournalRecord) -> Result<Text, NoMemory>
 {
     match spell_record(alloc, what) {
         Ok(bytes) => Ok(bytes),
-        Err(Unwritten::Unspelled) => Err(NoMemory),
-        Err(Unwritten::NoMemory) => Err(NoMemory),
+        Err(_) => Err(NoMemory),
     }
 }
 

@@ -99,7 +99,7 @@ fn fault_of(fault: SealFault) -> SubmitFault
     match fault {
         SealFault::Disk => SubmitFault::Disk,
         SealFault::NoMemory => SubmitFault::Refused(Refused::NoMemory),
-        SealFault::Closed => unreachable!(),
+        SealFault::Closed => SubmitFault::Closed,
     }
 }
 

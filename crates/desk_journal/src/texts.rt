@@ -12,7 +12,7 @@ use crate::past::Past;
 use crate::read_texts::read_noted;
 use seal_log::ReadFault;
 use std::alloc::Global;
-use undo_base::{Copies, NoMemory, Text, Texts};
+use undo_base::{Copies, Text, Texts};
 use undo_outside::Disk;
 use verb_core::Body;
 
@@ -21,10 +21,7 @@ fn copied(alloc: Global, text: &Text) -> Result<Text, ReadFault>
     ensures text { IfOk result (λ copy. copy ≡ text.now) }
     ensures memory { IsErrOf result ReadFault.Disk → ⊥ }
 {
-    match text.copy(alloc) {
-        Ok(copy) => Ok(copy),
-        Err(NoMemory) => Err(ReadFault::NoMemory),
-    }
+    Ok(text.copy(alloc)?)
 }
 
 /// The text of a body that has one. It is read where a record has it, and else nothing is.
@@ -95,10 +92,8 @@ fn push_at<D: Disk>(
     ensures alone { is_recorded desk.now.kept desk.now.kept.timeline body ≡ false → past.new ≡ past.old }
 {
     let text = text_at(alloc, past, desk, body)?;
-    match texts.push(text) {
-        Ok(()) => Ok(()),
-        Err(NoMemory) => Err(ReadFault::NoMemory),
-    }
+    texts.push(text)?;
+    Ok(())
 }
 
 /// The texts of bodies, in order.
