@@ -15,7 +15,7 @@ use box_store::Store;
 use sha2::{Digest, Sha256};
 use std::alloc::Global;
 use undo_base::{NoMemory, Text};
-use verb_bytes::{Unwritten, spell_snapshot};
+use verb_bytes::spell_snapshot;
 
 /// The SHA-256 of bytes (FIPS 180-4), in 64 digits.
 fn digits(alloc: Global, bytes: &[u8]) -> Result<Text, NoMemory>
@@ -34,8 +34,7 @@ pub fn snapshot_text(alloc: Global, store: &Store, items: u32) -> Result<Text, N
 {
     match spell_snapshot(alloc, items, store.conf(), store.boxes()) {
         Ok(text) => Ok(text),
-        Err(Unwritten::Unspelled) => Err(NoMemory),
-        Err(Unwritten::NoMemory) => Err(NoMemory),
+        Err(_) => Err(NoMemory),
     }
 }
 
