@@ -125,7 +125,7 @@ fn page_in(router: &Router<Page>, path: &str) -> Option<Page>
     }
 }
 
-/// The page whose route a path matches.
+/// The page whose route a path matches. What is no UTF-8 has none.
 pub fn find_page(alloc: Global, path: &[u8]) -> Result<Option<Page>, NoMemory>
     requires { IsUtf8 path.now }
     ensures page { IfOk result (λ page. page ≡ page_at path.now) }
@@ -134,6 +134,6 @@ pub fn find_page(alloc: Global, path: &[u8]) -> Result<Option<Page>, NoMemory>
     let router = page_router(alloc)?;
     match str::from_utf8(path) {
         Ok(path) => Ok(page_in(&router, path)),
-        Err(_) => unreachable!(),
+        Err(_) => Ok(None),
     }
 }
