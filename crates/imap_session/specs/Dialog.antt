@@ -357,6 +357,10 @@ hears house s sizes deep d raw = hears_reading house s sizes deep d (command_of 
 
 -- ---- what was awaited
 
+-- the texts are still awaited
+abbrev pub awaiting_texts : List ℕ → Wanted → Dialog → Dialog
+awaiting_texts tag w d = record d { awaits = Texts tag w }
+
 -- why texts can't be had
 abbrev pub fault_answer : ReadFault → Answer
 fault_answer read_fault.Disk = DiskFault
@@ -462,16 +466,6 @@ abbrev pub is_outcome : Awaits → Bool
 is_outcome Nothing = false
 is_outcome (Texts tag f) = false
 is_outcome (Outcome tag pending) = true
-
--- the texts of a FETCH are awaited, or those of a SEARCH
-abbrev pub is_of_search : Wanted → Bool
-is_of_search (wanted.Fetch f) = false
-is_of_search (wanted.Search q) = true
-
-abbrev pub is_search : Awaits → Bool
-is_search Nothing = false
-is_search (Texts tag w) = is_of_search w
-is_search (Outcome tag pending) = false
 
 -- nothing is awaited
 abbrev pub is_free : Dialog → Bool

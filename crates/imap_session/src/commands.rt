@@ -1,5 +1,5 @@
 //! What commands do to a dialog.
-ghost use Rattle.std.specs.Prelude.{◌≡◌, ◌++◌, true, IsTrue, IfOk, OnErr, IfSome};
+ghost use Rattle.std.specs.Prelude.{◌≡◌, ◌++◌, [], true, IsTrue, IfOk, OnErr, IfSome};
 ghost use Rattle.verb_core.specs.Live.{mail_of as mail_in};
 ghost use Rattle.verb_core.specs.Store.{is_house, IsValid};
 ghost use Rattle.imap_session.specs.declared.dialog.Awaits.{Awaits as TheAwaits};
@@ -24,6 +24,13 @@ pub(crate) fn say(alloc: Global, tag: &Name, answer: Answer) -> Result<ImapOut, 
     ensures { IfOk result (λ out. out ≡ ImapOut.Say (words.tagged tag.now answer)) }
 {
     Ok(ImapOut::Say(tagged(alloc, tag, answer)?))
+}
+
+/// Nothing is said.
+pub(crate) fn say_nothing(alloc: Global) -> ImapOut
+    ensures { result ≡ ImapOut.Say [] }
+{
+    ImapOut::Say(Text::new(alloc))
 }
 
 /// Data and then the answer.

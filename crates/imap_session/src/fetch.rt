@@ -8,7 +8,7 @@ ghost use Rattle.imap_session.specs.Fetching as fetching_spec;
 ghost use Rattle.imap_session.specs.Dialog.{took};
 ghost use Rattle.imap_session.specs.Dialog as spec;
 
-use crate::commands::say;
+use crate::commands::{say, say_nothing};
 use crate::dialog::{Awaits, Dialog, Fetching, Pending, Selected, Wanted};
 use crate::out::{Bodies0, ImapOut};
 use crate::search::search_texts;
@@ -185,30 +185,6 @@ pub(crate) fn fetch(
     fetch_in(alloc, store, sizes, dialog, tag, attributes, set, by_uid)
 }
 
-/// Asks the store for what a FETCH wanted, with its texts.
-fn submit_wanted(dialog: &mut Dialog, tag: Name, wanted: Wanted, texts: Texts) -> ImapOut
-    requires { spec.is_of_search wanted ≡ false }
-    ensures { spec.asks (spec.wanted_ask wanted texts) tag (spec.wanted_pending wanted texts) dialog.old ≡ took result dialog.new }
-{
-    match wanted {
-        Wanted::Fetch(fetching) => submit_fetch(dialog, tag, fetching, texts),
-        Wanted::Search(_) => unreachable!(),
-    }
-}
-
-/// Goes on with the texts of a FETCH.
-fn read_texts(dialog: &mut Dialog, texts: Texts) -> ImapOut
-    requires texts { spec.is_texts dialog.old.awaits ≡ true }
-    requires fetch { spec.is_search dialog.old.awaits ≡ false }
-    ensures { spec.heard dialog.old (Ok texts) ≡ took result dialog.new }
-{
-    match mem::replace(&mut dialog.awaits, Awaits::Nothing) {
-        Awaits::Texts { tag, wanted } => submit_wanted(dialog, tag, wanted, texts),
-        Awaits::Nothing => unreachable!(),
-        Awaits::Outcome { tag: _, pending: _ } => unreachable!(),
-    }
-}
-
 fn fault_answer(fault: ReadFault) -> Answer
     ensures { result ≡ spec.fault_answer fault }
 {
@@ -218,65 +194,84 @@ fn fault_answer(fault: ReadFault) -> Answer
     }
 }
 
-/// The texts can't be had.
-fn miss_texts(alloc: Global, dialog: &mut Dialog, fault: ReadFault) -> Result<ImapOut, NoMemory>
-    requires { spec.is_texts dialog.old.awaits ≡ true }
-    ensures ok { IfOk result (λ out. spec.heard dialog.old (Err fault) ≡ took out dialog.new) }
-    ensures err { OnErr result (dialog.new ≡ dialog.old) }
+/// The texts can't be had. Where there is no memory for the answer they are still due.
+fn miss_texts(
+    alloc: Global,
+    dialog: &mut Dialog,
+    tag: Name,
+    wanted: Wanted,
+    fault: ReadFault,
+) -> Result<ImapOut, NoMemory>
+    ensures ok { IfOk result (λ out. spec.says tag (spec.fault_answer fault) dialog.old ≡ took out dialog.new) }
+    ensures err { OnErr result (dialog.new ≡ spec.awaiting_texts tag wanted dialog.old) }
 {
-    let out = match &dialog.awaits {
-        Awaits::Texts { tag, wanted: _ } => say(alloc, tag, fault_answer(fault))?,
-        Awaits::Nothing => unreachable!(),
-        Awaits::Outcome { tag: _, pending: _ } => unreachable!(),
-    };
-    dialog.awaits = Awaits::Nothing;
-    Ok(out)
+    match say(alloc, &tag, fault_answer(fault)) {
+        Ok(out) => Ok(out),
+        Err(NoMemory) => {
+            dialog.awaits = Awaits::Texts { tag, wanted };
+            Err(NoMemory)
+        }
+    }
 }
 
-fn is_of_search(wanted: &Wanted) -> bool
-    ensures { result ≡ spec.is_of_search wanted.now }
+/// Goes on with the texts of a FETCH. Where there is no memory for them they are still due.
+fn fetch_texts(
+    alloc: Global,
+    dialog: &mut Dialog,
+    tag: Name,
+    fetching: Fetching,
+    texts: &Texts,
+) -> Result<ImapOut, NoMemory>
+    ensures ok { IfOk result (λ out. spec.asks (fetching_spec.ask_of fetching) tag (Pending.Fetch fetching.form fetching.rows texts.now) dialog.old ≡ took out dialog.new) }
+    ensures err { OnErr result (dialog.new ≡ spec.awaiting_texts tag (Wanted.Fetch fetching) dialog.old) }
+{
+    match texts.copy(alloc) {
+        Ok(texts) => Ok(submit_fetch(dialog, tag, fetching, texts)),
+        Err(NoMemory) => {
+            dialog.awaits = Awaits::Texts {
+                tag,
+                wanted: Wanted::Fetch(fetching),
+            };
+            Err(NoMemory)
+        }
+    }
+}
+
+/// Goes on with the texts. Where no memory is found they are still due.
+fn go_on(
+    alloc: Global,
+    dialog: &mut Dialog,
+    tag: Name,
+    wanted: Wanted,
+    texts: &Texts,
+) -> Result<ImapOut, NoMemory>
+    ensures ok { IfOk result (λ out. spec.asks (spec.wanted_ask wanted texts.now) tag (spec.wanted_pending wanted texts.now) dialog.old ≡ took out dialog.new) }
+    ensures err { OnErr result (dialog.new ≡ spec.awaiting_texts tag wanted dialog.old) }
 {
     match wanted {
-        Wanted::Fetch(_) => false,
-        Wanted::Search(_) => true,
+        Wanted::Fetch(fetching) => fetch_texts(alloc, dialog, tag, fetching, texts),
+        Wanted::Search(searching) => search_texts(alloc, dialog, tag, searching, texts.as_slice()),
     }
 }
 
-fn is_search(awaits: &Awaits) -> bool
-    ensures { result ≡ spec.is_search awaits.now }
-{
-    match awaits {
-        Awaits::Nothing => false,
-        Awaits::Texts { tag: _, wanted } => is_of_search(wanted),
-        Awaits::Outcome { tag: _, pending: _ } => false,
-    }
-}
-
-/// Goes on with the texts.
-fn hear_texts(alloc: Global, dialog: &mut Dialog, texts: &Texts) -> Result<ImapOut, NoMemory>
-    requires { spec.is_texts dialog.old.awaits ≡ true }
-    ensures ok { IfOk result (λ out. spec.heard dialog.old (Ok texts.now) ≡ took out dialog.new) }
-    ensures err { OnErr result (dialog.new ≡ dialog.old) }
-{
-    if is_search(&dialog.awaits) {
-        return search_texts(alloc, dialog, texts.as_slice());
-    }
-    let texts = texts.copy(alloc)?;
-    Ok(read_texts(dialog, texts))
-}
-
-/// The texts that a FETCH or a SEARCH needs, or why they can't be had.
+/// The texts that a FETCH or a SEARCH needs, or why they can't be had. Where none are awaited nothing is said.
 pub(crate) fn hear(
     alloc: Global,
     dialog: &mut Dialog,
     texts: &Result<Texts, ReadFault>,
 ) -> Result<ImapOut, NoMemory>
-    requires { spec.is_texts dialog.old.awaits ≡ true }
     ensures ok { IfOk result (λ out. spec.heard dialog.old texts.now ≡ took out dialog.new) }
     ensures err { OnErr result (dialog.new ≡ dialog.old) }
 {
-    match texts {
-        Ok(texts) => hear_texts(alloc, dialog, texts),
-        Err(fault) => miss_texts(alloc, dialog, *fault),
+    match mem::replace(&mut dialog.awaits, Awaits::Nothing) {
+        Awaits::Texts { tag, wanted } => match texts {
+            Ok(texts) => go_on(alloc, dialog, tag, wanted, texts),
+            Err(fault) => miss_texts(alloc, dialog, tag, wanted, *fault),
+        },
+        Awaits::Outcome { tag, pending } => {
+            dialog.awaits = Awaits::Outcome { tag, pending };
+            Ok(say_nothing(alloc))
+        }
+        Awaits::Nothing => Ok(say_nothing(alloc)),
     }
 }

@@ -21,7 +21,7 @@ use imap_fetch::StoreForm;
 use imap_lines::{ImapCommand, ImapWhat};
 use shelf::Shelf;
 use std::alloc::Global;
-use undo_base::{Name, NoMemory};
+use undo_base::NoMemory;
 use verb_core::House;
 
 /// Whether a command tells the view of its mailbox, and the view follows.
@@ -57,18 +57,18 @@ pub(crate) fn obey(
     sizes: &Shelf,
     deep: bool,
     dialog: &mut Dialog,
-    tag: &Name,
-    what: &ImapWhat,
+    command: &ImapCommand,
     current: bool,
 ) -> Result<ImapOut, NoMemory>
     requires house { IsTrue (is_house house.now) }
     requires valid { IsValid store.now.store }
     requires current { current ≡ true → spec.is_view_current store.now.store dialog.old ≡ true }
     requires order { IfSome dialog.old.selected (λ s. is_in_order s.view ≡ true) }
-    ensures ok { IfOk result (λ out. spec.obey house.now store.now.store (size_of sizes.now.notes) deep tag.now dialog.old what.now ≡ took out dialog.new) }
-    ensures err { OnErr result (dialog.new ≡ spec.without_memory what.now dialog.old) }
+    ensures ok { IfOk result (λ out. spec.obey house.now store.now.store (size_of sizes.now.notes) deep command.now.tag dialog.old command.now.what ≡ took out dialog.new) }
+    ensures err { OnErr result (dialog.new ≡ spec.without_memory command.now.what dialog.old) }
 {
-    match what {
+    let tag = &command.tag;
+    match &command.what {
         ImapWhat::Noop => follow(
             alloc,
             store,

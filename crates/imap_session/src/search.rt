@@ -386,33 +386,26 @@ pub(crate) fn search(
     begin_search(alloc, dialog, tag, searching, bodies)
 }
 
-/// Goes on with the texts.
+/// Goes on with the texts of a SEARCH. Where no memory is found they are still due.
 pub(crate) fn search_texts(
     alloc: Global,
     dialog: &mut Dialog,
+    tag: Name,
+    searching: Searching,
     texts: &[Text],
 ) -> Result<ImapOut, NoMemory>
-    requires { spec.is_search dialog.old.awaits ≡ true }
-    ensures ok { IfOk result (λ out. spec.heard dialog.old (Ok texts.now) ≡ took out dialog.new) }
-    ensures err { OnErr result (dialog.new ≡ dialog.old) }
+    ensures ok { IfOk result (λ out. spec.asks (search_spec.search_ask searching texts.now) tag (spec.search_pending searching texts.now) dialog.old ≡ took out dialog.new) }
+    ensures err { OnErr result (dialog.new ≡ spec.awaiting_texts tag (Wanted.Search searching) dialog.old) }
 {
-    let found = match &dialog.awaits {
-        Awaits::Texts { tag, wanted } => found_for(alloc, tag, wanted, texts)?,
-        Awaits::Nothing => unreachable!(),
-        Awaits::Outcome { tag: _, pending: _ } => unreachable!(),
-    };
-    Ok(submit_found(dialog, found))
-}
-
-fn found_for(alloc: Global, tag: &Name, wanted: &Wanted, texts: &[Text]) -> Result<Found, NoMemory>
-    requires { spec.is_of_search wanted.now ≡ true }
-    ensures tag { IfOk result (λ f. f.tag ≡ tag.now) }
-    ensures asked { IfOk result (λ f. f.asked ≡ spec.wanted_ask wanted.now texts.now) }
-    ensures pending { IfOk result (λ f. f.pending ≡ spec.wanted_pending wanted.now texts.now) }
-{
-    match wanted {
-        Wanted::Search(searching) => found_with(alloc, tag, searching, texts),
-        Wanted::Fetch(_) => unreachable!(),
+    match found_with(alloc, &tag, &searching, texts) {
+        Ok(found) => Ok(submit_found(dialog, found)),
+        Err(NoMemory) => {
+            dialog.awaits = Awaits::Texts {
+                tag,
+                wanted: Wanted::Search(searching),
+            };
+            Err(NoMemory)
+        }
     }
 }
 

@@ -81,7 +81,8 @@ impl ImapSession {
         ensures err { OnErr result (self.new ≡ without_memory command.now.what self.old) }
         ensures rests { OnErr result (is_free self.new ≡ true) }
     {
-        self.take_known(alloc, house, store, stamps, sizes, deep, command, false)
+        let _stamps = stamps;
+        self.take_known(alloc, house, store, sizes, deep, command, false)
     }
 
     /// `take`, where it may be known that the view is current: then a NOOP or CHECK does not look at the mailbox.
@@ -90,7 +91,6 @@ impl ImapSession {
         alloc: Global,
         house: &House,
         store: &Store,
-        stamps: &Stamps,
         sizes: &Shelf,
         deep: bool,
         command: &ImapCommand,
@@ -110,7 +110,6 @@ impl ImapSession {
         ensures err { OnErr result (self.new ≡ without_memory command.now.what self.old) }
         ensures rests { OnErr result (is_free self.new ≡ true) }
     {
-        let _stamps = stamps;
         obey(
             alloc,
             house,
@@ -118,8 +117,7 @@ impl ImapSession {
             sizes,
             deep,
             &mut self.dialog,
-            &command.tag,
-            &command.what,
+            command,
             current,
         )
     }

@@ -10,7 +10,7 @@ ghost use Rattle.imap_session.specs.Words as words;
 ghost use Rattle.imap_session.specs.Dialog.{took};
 ghost use Rattle.imap_session.specs.Dialog as spec;
 
-use crate::commands::{follow, say, tell};
+use crate::commands::{follow, say, say_nothing, tell};
 use crate::dialog::{Awaits, Dialog, Pending, Selected};
 use crate::lists::{counted, listed};
 use crate::out::ImapOut;
@@ -285,7 +285,7 @@ fn settle_pending(
     }
 }
 
-/// The outcome of what was asked, with the store and the stamps after it.
+/// The outcome of what was asked, with the store and the stamps after it. Where none is awaited nothing is said.
 pub(crate) fn settle(
     alloc: Global,
     store: &Store,
@@ -296,24 +296,22 @@ pub(crate) fn settle(
     requires valid { IsValid store.now.store }
     requires rising { IsTrue (is_rising stamps.now) }
     requires order { IfSome dialog.old.selected (λ s. views.is_in_order s.view ≡ true) }
-    requires due { spec.is_outcome dialog.old.awaits ≡ true }
     ensures ok { IfOk result (λ out. spec.settle store.now.store stamps.now dialog.old outcome.now ≡ took out dialog.new) }
     ensures err { OnErr result (dialog.new ≡ dialog.old) }
 {
-    let out = match &dialog.awaits {
-        Awaits::Outcome { tag, pending } => settle_pending(
-            alloc,
-            store,
-            stamps,
-            dialog.user,
-            &mut dialog.selected,
-            tag,
-            pending,
-            outcome,
-        )?,
-        Awaits::Nothing => unreachable!(),
-        Awaits::Texts { tag: _, wanted: _ } => unreachable!(),
+    let Awaits::Outcome { tag, pending } = &dialog.awaits else {
+        return Ok(say_nothing(alloc));
     };
+    let out = settle_pending(
+        alloc,
+        store,
+        stamps,
+        dialog.user,
+        &mut dialog.selected,
+        tag,
+        pending,
+        outcome,
+    )?;
     dialog.awaits = Awaits::Nothing;
     Ok(out)
 }

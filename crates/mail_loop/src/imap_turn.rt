@@ -63,11 +63,11 @@ fn take_command<D: Disk + Drop>(
 {
     seals_join::<D>();
     desk.stands();
-    let (house, store, stamps, sizes) = (desk.house(), desk.store(), desk.stamps(), desk.shelf());
+    let (house, store, sizes) = (desk.house(), desk.store(), desk.shelf());
     let known = *current;
     let deep = desk.upgraded();
     *current = false;
-    match session.take_known(alloc, house, store, stamps, sizes, deep, command, known) {
+    match session.take_known(alloc, house, store, sizes, deep, command, known) {
         Ok(out) => {
             *current = stays_current(known, command, &out);
             follow(alloc, desk, session, at, of_imap(out), reply)
