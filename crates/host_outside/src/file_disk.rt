@@ -10,6 +10,7 @@ ghost use Rattle.host_outside.specs.declared.file_disk.State.TheVariants as stat
 use crate::calls::FileCalls;
 use crate::locks::Locks;
 use crate::path_file::{Found, Lock, PathFile};
+use std::os::fd::AsRawFd;
 use std::os::unix::fs::FileExt;
 use std::rt::Files;
 use std::time::Clock;
@@ -48,7 +49,7 @@ pub type FileDisk<'a, R> = DiskOver<PathFile<'a, R>>;
 
 impl<'a, R: Files + Eprint + Clock> DiskOver<PathFile<'a, R>>
 where
-    R::File: Locks + FileExt,
+    R::File: Locks + FileExt + AsRawFd,
 {
     /// The file at this path, locked for this program alone as long as the disk is there; a missing one has length 0, and is
     /// made at the first write. Without a path, or where another program has locked the file or no length was found, each

@@ -4,9 +4,11 @@ ghost use Rattle.std.specs.Prelude.{None};
 
 use crate::calls::FileCalls;
 use crate::locks::Locks;
+use crate::near::{Near, ReadAhead};
 use crate::telling::{Throttle, meaning, second};
 use std::fs::{self, OpenFile, OpenOptions};
 use std::io::{self, ErrorKind};
+use std::os::fd::AsRawFd;
 use std::os::unix::fs::{FileExt, MetadataExt, OpenOptionsExt};
 use std::path::Path;
 use std::rt::Files;
@@ -19,6 +21,10 @@ pub struct PathFile<'a, R: Files> {
     files: R,
     path: Option<&'a String>,
     file: Option<R::File>,
+    /// What was read last, of a file that nobody writes.
+    near: Option<Near>,
+    /// How far the system knows what is read.
+    ahead: ReadAhead,
     /// Lets the lines pass that could come often.
     throttle: Throttle,
 }
@@ -53,12 +59,17 @@ where
             Some(path) => find_at(&files, path, lock),
             None => (None, Found::Nothing),
         };
-        let throttle = Throttle::new();
+        let near = match lock {
+            Lock::Exclusive => None,
+            Lock::Shared => Some(Near::new()),
+        };
         let file = PathFile {
             files,
             path,
             file,
-            throttle,
+            near,
+            ahead: ReadAhead::new(),
+            throttle: Throttle::new(),
         };
         (file, found)
     }
@@ -92,7 +103,7 @@ where
 
 impl<'a, R: Files + Eprint + Clock> FileCalls for PathFile<'a, R>
 where
-    R::File: Locks + FileExt,
+    R::File: Locks + FileExt + AsRawFd,
 {
     ghost told = { λ _. None };
 
@@ -108,7 +119,9 @@ where
     }
 
     fn read(&mut self, place: u64, buf: &mut [u8]) -> Result<(), Failed> {
-        match self.file.as_ref().ok_or(Failed)?.read_exact_at(buf, place) {
+        let file = self.file.as_ref().ok_or(Failed)?;
+        self.ahead.go_on(file, place);
+        match read_near(&mut self.near, file, place, buf) {
             Ok(()) => Ok(()),
             Err(error) => Err(self.tell_seldom("it cannot be read", &error)),
         }
@@ -160,6 +173,19 @@ where
             Ok(()) => Ok(()),
             Err(error) => Err(self.tell("its folder cannot be synced", &error)),
         }
+    }
+}
+
+/// Fills a buffer from a place of a file on, or with what was read before.
+fn read_near<F: FileExt>(
+    near: &mut Option<Near>,
+    file: &F,
+    place: u64,
+    buf: &mut [u8],
+) -> io::Result<()> {
+    match near {
+        Some(near) => near.read(file, place, buf),
+        None => file.read_exact_at(buf, place),
     }
 }
 
