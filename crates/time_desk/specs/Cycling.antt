@@ -117,8 +117,8 @@ pub record IsCycled (kept : Kept) (at : ℕ) (ask : CycleAsk) (honest : Type 0) 
   pub due : due_anew kept at ask ≡ Rewinds (cycled_at kept at ask place)
   pub is_made : IsMade kept at (repair_of kept at ask place) honest made
 
--- a cycle is due under a new key, and what is left in memory is what it leaves, where the texts are told as they were stored or none is
--- to be read
+-- A cycle is due under a new key. Where the texts are told as they were stored, or none is to be read, what is left in memory is what it
+-- leaves.
 abbrev pub Redoes : Kept → ℕ → CycleAsk → Type 0 → Rewound → Type 0
 Redoes kept at ask told made = (due : Cycled) × (due_anew kept at ask ≡ Rewinds due) × (told → Leaves kept due made)
 
