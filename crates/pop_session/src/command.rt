@@ -1,5 +1,5 @@
 //! Lines, and the commands that they are (RFC 1939, section 3).
-ghost use Rattle.std.specs.Prelude.{◌≡◌, ◌≤◌, ◌==◌, length};
+ghost use Rattle.std.specs.Prelude.{◌≡◌, ◌≤◌, ◌==◌, length, ok_or};
 ghost use Rattle.std.specs.List.{after_first, before_first, list_any, position_or_len};
 ghost use Rattle.smtp_lines.specs.Parts.{is_space as is_space_byte, is_spelled, trimmed};
 ghost use Rattle.pop_session.specs.Command as spec;
@@ -137,17 +137,17 @@ fn read_keyword(bytes: &[u8]) -> Option<Keyword>
 }
 
 /// The number of a message.
-fn read_message(text: &[u8]) -> Option<u64>
-    ensures { result ≡ spec.message_number text.now }
+fn read_message(text: &[u8]) -> Result<u64, LineRefused>
+    ensures { result ≡ ok_or (spec.message_number text.now) LineRefused.Argument }
 {
-    read_number(1, 65536, text)
+    read_number(1, 65536, text).ok_or(LineRefused::Argument)
 }
 
 /// A number of lines.
-fn read_lines(text: &[u8]) -> Option<u64>
-    ensures { result ≡ spec.line_count text.now }
+fn read_lines(text: &[u8]) -> Result<u64, LineRefused>
+    ensures { result ≡ ok_or (spec.line_count text.now) LineRefused.Argument }
 {
-    read_number(0, 65535, text)
+    read_number(0, 65535, text).ok_or(LineRefused::Argument)
 }
 
 fn read_alone(command: Command, argument: &[u8]) -> Result<Command, LineRefused>
@@ -194,12 +194,12 @@ fn read_list(argument: &[u8]) -> Result<Command, LineRefused>
 {
     match argument {
         [] => Ok(Command::List { message: None }),
-        _ => match read_message(argument) {
-            Some(message) => Ok(Command::List {
+        _ => {
+            let message = read_message(argument)?;
+            Ok(Command::List {
                 message: Some(message),
-            }),
-            None => Err(LineRefused::Argument),
-        },
+            })
+        }
     }
 }
 
@@ -208,43 +208,35 @@ fn read_uidl(argument: &[u8]) -> Result<Command, LineRefused>
 {
     match argument {
         [] => Ok(Command::Uidl { message: None }),
-        _ => match read_message(argument) {
-            Some(message) => Ok(Command::Uidl {
+        _ => {
+            let message = read_message(argument)?;
+            Ok(Command::Uidl {
                 message: Some(message),
-            }),
-            None => Err(LineRefused::Argument),
-        },
+            })
+        }
     }
 }
 
 fn read_retr(argument: &[u8]) -> Result<Command, LineRefused>
     ensures { result ≡ spec.message_of Command.Retr argument.now }
 {
-    match read_message(argument) {
-        Some(message) => Ok(Command::Retr { message }),
-        None => Err(LineRefused::Argument),
-    }
+    let message = read_message(argument)?;
+    Ok(Command::Retr { message })
 }
 
 fn read_dele(argument: &[u8]) -> Result<Command, LineRefused>
     ensures { result ≡ spec.message_of Command.Dele argument.now }
 {
-    match read_message(argument) {
-        Some(message) => Ok(Command::Dele { message }),
-        None => Err(LineRefused::Argument),
-    }
+    let message = read_message(argument)?;
+    Ok(Command::Dele { message })
 }
 
 fn read_top(argument: &[u8]) -> Result<Command, LineRefused>
     ensures { result ≡ spec.top_of argument.now }
 {
-    let Some(message) = read_message(word(argument)) else {
-        return Err(LineRefused::Argument);
-    };
-    match read_lines(behind_word(argument)) {
-        Some(lines) => Ok(Command::Top { message, lines }),
-        None => Err(LineRefused::Argument),
-    }
+    let message = read_message(word(argument))?;
+    let lines = read_lines(behind_word(argument))?;
+    Ok(Command::Top { message, lines })
 }
 
 /// The command of a keyword and what stands behind it.
@@ -270,10 +262,8 @@ fn read_spoken(keyword: Keyword, argument: &[u8]) -> Result<Command, LineRefused
 fn read_words(bytes: &[u8]) -> Result<Command, LineRefused>
     ensures { result ≡ spec.words_of bytes.now }
 {
-    match read_keyword(word(bytes)) {
-        Some(keyword) => read_spoken(keyword, behind_word(bytes)),
-        None => Err(LineRefused::Unknown),
-    }
+    let keyword = read_keyword(word(bytes)).ok_or(LineRefused::Unknown)?;
+    read_spoken(keyword, behind_word(bytes))
 }
 
 /// The command that a line is. Takes no memory.

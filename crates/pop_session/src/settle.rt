@@ -10,24 +10,13 @@ use crate::dialog::{Awaits, Dialog, Pending, Stage, Wanted};
 use crate::maildrop::Maildrop;
 use crate::out::PopOut;
 use crate::sending::retrieved;
-use crate::transaction::{inbox, say};
+use crate::transaction::{inbox, say, say_nothing};
 use crate::update::end;
 use seal_log::ReadFault;
 use std::alloc::Global;
 use std::mem;
 use undo_base::{Key, Keys, Name, NoMemory, Text, User};
 use verb_core::{Ask, Item, SubmitFault};
-
-/// Goes on with what RETR or TOP wants, where that is known.
-fn wanted(awaits: &Awaits) -> Wanted
-    requires { spec.is_text awaits.now ≡ true }
-    ensures { awaits.now ≡ Awaits.Text result }
-{
-    let Awaits::Text { wanted } = awaits else {
-        unreachable!()
-    };
-    *wanted
-}
 
 fn one_key(alloc: Global, key: Key) -> Result<Keys, NoMemory>
     ensures { IfOk result (λ keys. keys ≡ key ∷ []) }
@@ -79,17 +68,19 @@ fn miss(alloc: Global, dialog: &mut Dialog, fault: ReadFault) -> Result<PopOut, 
     Ok(out)
 }
 
-/// The text that RETR or TOP needs, or why it can't be had.
+/// The text that RETR or TOP needs, or why it can't be had. Where none is awaited nothing is said.
 pub(crate) fn hear(
     alloc: Global,
     dialog: &mut Dialog,
     text: &Result<Text, ReadFault>,
 ) -> Result<PopOut, NoMemory>
-    requires { spec.is_text dialog.old.awaits ≡ true }
     ensures ok { IfOk result (λ out. spec.heard dialog.old text.now ≡ took out dialog.new) }
     ensures err { OnErr result (dialog.new ≡ dialog.old) }
 {
-    let wanted = wanted(&dialog.awaits);
+    let Awaits::Text { wanted } = &dialog.awaits else {
+        return Ok(say_nothing(alloc));
+    };
+    let wanted = *wanted;
     match text {
         Ok(text) => show(alloc, dialog, wanted, text.bytes()),
         Err(fault) => miss(alloc, dialog, *fault),
@@ -163,16 +154,16 @@ fn done(alloc: Global, dialog: &mut Dialog, pending: Pending) -> Result<PopOut, 
     }
 }
 
-/// What is pending, while nothing is awaited any more.
-fn take_pending(dialog: &mut Dialog) -> Pending
-    requires { spec.is_outcome dialog.old.awaits ≡ true }
-    ensures pending { dialog.old.awaits ≡ Awaits.Outcome result }
-    ensures rest { dialog.new ≡ at_rest dialog.old }
+/// What was awaited is done. Where it was no outcome nothing is said; where there is no memory for the answer the outcome is still due.
+fn done_awaited(alloc: Global, dialog: &mut Dialog) -> Result<PopOut, NoMemory>
+    ensures ok { IfOk result (λ out. spec.done_in dialog.old.awaits (at_rest dialog.old) ≡ took out dialog.new) }
+    ensures err { OnErr result (dialog.new ≡ dialog.old) }
 {
-    let Awaits::Outcome { pending } = mem::replace(&mut dialog.awaits, Awaits::Nothing) else {
-        unreachable!()
-    };
-    pending
+    match mem::replace(&mut dialog.awaits, Awaits::Nothing) {
+        Awaits::Outcome { pending } => done(alloc, dialog, pending),
+        Awaits::Text { wanted: _ } => Ok(say_nothing(alloc)),
+        Awaits::Nothing => Ok(say_nothing(alloc)),
+    }
 }
 
 fn is_login(pending: &Pending) -> bool
@@ -261,15 +252,11 @@ pub(crate) fn settle(
     dialog: &mut Dialog,
     outcome: &Result<Item, SubmitFault>,
 ) -> Result<PopOut, NoMemory>
-    requires { spec.is_outcome dialog.old.awaits ≡ true }
     ensures ok { IfOk result (λ out. spec.settle dialog.old outcome.now ≡ took out dialog.new) }
     ensures err { OnErr result (dialog.new ≡ dialog.old) }
 {
     match outcome {
-        Ok(_) => {
-            let pending = take_pending(dialog);
-            done(alloc, dialog, pending)
-        }
+        Ok(_) => done_awaited(alloc, dialog),
         Err(fault) => undone(alloc, dialog, *fault),
     }
 }

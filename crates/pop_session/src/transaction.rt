@@ -1,5 +1,5 @@
 //! The commands of a user who is logged in (RFC 1939, sections 5 and 7).
-ghost use Rattle.std.specs.Prelude.{◌≡◌, ◌≤◌, length, IfOk, OnErr, OnOk, Option, Some, option_copied, option_map};
+ghost use Rattle.std.specs.Prelude.{◌≡◌, ◌≤◌, [], length, IfOk, OnErr, OnOk, Option, Some, option_copied, option_map};
 ghost use Rattle.undo_base.specs.declared.keys.User.{User as TheUser};
 ghost use Rattle.verb_core.specs.declared.mailbox.Entry.{Entry as TheEntry};
 ghost use Rattle.verb_core.specs.Live.{mail_of as mail_in};
@@ -20,7 +20,7 @@ use crate::maildrop::{Detail, Maildrop, Message, detail_answer, listing};
 use crate::out::PopOut;
 use box_store::Store;
 use std::alloc::Global;
-use undo_base::{Key, Name, NoMemory, User};
+use undo_base::{Key, Name, NoMemory, Text, User};
 use verb_core::{Body, Entry};
 
 /// An answer, after which the dialog goes on.
@@ -29,6 +29,13 @@ pub(crate) fn say(alloc: Global, answer: Answer) -> Result<PopOut, NoMemory>
 {
     let text = write_answer(alloc, answer)?;
     Ok(PopOut::Say(text))
+}
+
+/// Nothing is said.
+pub(crate) fn say_nothing(alloc: Global) -> PopOut
+    ensures { result ≡ PopOut.Say [] }
+{
+    PopOut::Say(Text::new(alloc))
 }
 
 /// The name of the mailbox that a maildrop is made of.
