@@ -43,11 +43,11 @@ pub enum Answer {
 }
 
 /// A line with the host's name between its ends.
-fn with_host(alloc: Global, front: &[u8], host: &Name, back: &[u8]) -> Result<Text, NoMemory>
+fn with_host(alloc: Global, front: &[u8], host: &[u8], back: &[u8]) -> Result<Text, NoMemory>
     ensures { IfOk result (λ text. text ≡ said (front.now ++ host.now ++ back.now)) }
 {
     let mut text = Text::of(alloc, front)?;
-    text.extend(host.bytes())?;
+    text.extend(host)?;
     text.extend(back)?;
     text.extend(b"\r\n")?;
     Ok(text)
@@ -61,7 +61,7 @@ fn stored(alloc: Global, number: u32) -> Result<Text, NoMemory>
 }
 
 /// The text of an answer.
-fn write_answer(alloc: Global, host: &Name, answer: Answer) -> Result<Text, NoMemory>
+pub(crate) fn write_answer(alloc: Global, host: &[u8], answer: Answer) -> Result<Text, NoMemory>
     ensures { IfOk result (λ text. text ≡ answer_text host.now answer) }
 {
     match answer {
@@ -92,7 +92,7 @@ fn write_answer(alloc: Global, host: &Name, answer: Answer) -> Result<Text, NoMe
 pub(crate) fn say(alloc: Global, host: &Name, answer: Answer) -> Result<SmtpOut, NoMemory>
     ensures { IfOk result (λ out. out ≡ SmtpOut.Say (answer_text host.now answer)) }
 {
-    let text = write_answer(alloc, host, answer)?;
+    let text = write_answer(alloc, host.bytes(), answer)?;
     Ok(SmtpOut::Say(text))
 }
 
@@ -100,7 +100,7 @@ pub(crate) fn say(alloc: Global, host: &Name, answer: Answer) -> Result<SmtpOut,
 pub(crate) fn say_bye(alloc: Global, host: &Name, answer: Answer) -> Result<SmtpOut, NoMemory>
     ensures { IfOk result (λ out. out ≡ SmtpOut.Bye (answer_text host.now answer)) }
 {
-    let text = write_answer(alloc, host, answer)?;
+    let text = write_answer(alloc, host.bytes(), answer)?;
     Ok(SmtpOut::Bye(text))
 }
 
@@ -108,7 +108,7 @@ pub(crate) fn say_bye(alloc: Global, host: &Name, answer: Answer) -> Result<Smtp
 pub fn greeting(alloc: Global, house: &House) -> Result<Text, NoMemory>
     ensures { IfOk result (λ text. text ≡ answer_text house.now.host Answer.Ready) }
 {
-    write_answer(alloc, &house.host, Answer::Ready)
+    write_answer(alloc, house.host.bytes(), Answer::Ready)
 }
 
 /// What is told of want of memory, which takes none.

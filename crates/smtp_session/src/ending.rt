@@ -1,9 +1,9 @@
 //! How a transaction ends.
-ghost use Rattle.std.specs.Prelude.{◌≡◌, IfOk, OnErr, true};
+ghost use Rattle.std.specs.Prelude.{◌≡◌, IfOk, OnErr};
 ghost use Rattle.smtp_session.specs.Ending.{Ends};
-ghost use Rattle.smtp_session.specs.Dialog.{is_due_in, settle, outcome_said, fault_said, turns};
+ghost use Rattle.smtp_session.specs.Dialog.{host_due as host_of, fault_said, outcome_said, settle, turns};
 
-use crate::answer::{Answer, SmtpOut, answer_to_delivery, say, say_bye};
+use crate::answer::{Answer, SmtpOut, answer_to_delivery, say, write_answer};
 use crate::dialog::{Dialog, Transaction};
 use crate::recipients::Recipients;
 use std::alloc::Global;
@@ -35,19 +35,22 @@ pub(crate) fn end_transaction(
     Ok((SmtpOut::Mail(asked), Transaction::Due { host }))
 }
 
-fn tell_fault(alloc: Global, host: &Name, fault: SubmitFault) -> Result<SmtpOut, NoMemory>
+fn tell_fault(alloc: Global, host: &[u8], fault: SubmitFault) -> Result<SmtpOut, NoMemory>
     ensures { IfOk result (λ out. out ≡ fault_said host.now fault) }
 {
     match fault {
-        SubmitFault::Refused(refused) => say(alloc, host, answer_to_delivery(refused)),
-        SubmitFault::Disk => say_bye(alloc, host, Answer::DiskFault),
-        SubmitFault::Closed => say_bye(alloc, host, Answer::DiskFault),
+        SubmitFault::Refused(refused) => {
+            let text = write_answer(alloc, host, answer_to_delivery(refused))?;
+            Ok(SmtpOut::Say(text))
+        }
+        SubmitFault::Disk => Ok(SmtpOut::Bye(write_answer(alloc, host, Answer::DiskFault)?)),
+        SubmitFault::Closed => Ok(SmtpOut::Bye(write_answer(alloc, host, Answer::DiskFault)?)),
     }
 }
 
 fn tell(
     alloc: Global,
-    host: &Name,
+    host: &[u8],
     outcome: &Result<Item, SubmitFault>,
 ) -> Result<SmtpOut, NoMemory>
     ensures { IfOk result (λ out. out ≡ outcome_said host.now outcome.now) }
@@ -55,9 +58,21 @@ fn tell(
     match outcome {
         Ok(item) => {
             let number = item.number;
-            say(alloc, host, Answer::Stored { number })
+            Ok(SmtpOut::Say(write_answer(alloc, host, Answer::Stored { number })?))
         }
         Err(fault) => tell_fault(alloc, host, *fault),
+    }
+}
+
+/// The host's name, while an outcome is due.
+fn host_due(transaction: &Transaction) -> &[u8]
+    ensures { result.now ≡ host_of transaction.now }
+{
+    match transaction {
+        Transaction::Idle => b"",
+        Transaction::Begun { .. } => b"",
+        Transaction::Writing { .. } => b"",
+        Transaction::Due { host } => host.bytes(),
     }
 }
 
@@ -67,14 +82,10 @@ pub(crate) fn settle_dialog(
     dialog: &mut Dialog,
     outcome: &Result<Item, SubmitFault>,
 ) -> Result<SmtpOut, NoMemory>
-    requires { is_due_in dialog.old.transaction ≡ true }
     ensures ok { IfOk result (λ out. settle dialog.old outcome.now ≡ turns out dialog.new) }
     ensures err { OnErr result (dialog.new ≡ dialog.old) }
 {
-    let Transaction::Due { host } = &dialog.transaction else {
-        unreachable!()
-    };
-    let out = tell(alloc, host, outcome)?;
+    let out = tell(alloc, host_due(&dialog.transaction), outcome)?;
     dialog.transaction = Transaction::Idle;
     Ok(out)
 }
