@@ -1,5 +1,5 @@
 -- What becomes of a request for a cycle, from what a cycle leaves in memory and what became of sealing it.
-use Rattle.std.proofs.Common.{◌≡◌, ◌⊎◌, ◌||◌, ◌<◌, ◌≤◌, ◌-◌, ◌∷◌, ◌++◌, ◌∙◌, ◌&&◌, [], ℕ, take, drop, List, Bool, true, false, Option, Some, None, Result, Ok, Err, IfOk, OnOk, inl, inr, map, refl, sym, ap, subst, arith}
+use Rattle.std.proofs.Common.{◌≡◌, ◌⊎◌, ◌||◌, ◌<◌, ◌≤◌, ◌-◌, ◌∷◌, ◌++◌, ◌∙◌, ◌&&◌, [], ℕ, take, drop, List, Bool, true, false, Option, Some, None, Result, Ok, Err, IfOk, OnOk, inl, inr, map, refl, sym, ap, ap₂, subst, arith}
 use Rattle.std.specs.Prelude.{◌+◌, IsErrOf, OnErr, if◌then◌else◌, is_none, length, IsSome, IsTrue}
 use Rattle.std.proofs.lemmas.List.{take-append-drop}
 use Rattle.cycle_rules.specs.Judging.{shown_after}
@@ -55,7 +55,7 @@ use Rattle.time_desk.specs.declared.fault.CycleFault.{CycleFault}
 use Rattle.time_desk.specs.declared.fault.CycleFault.TheVariants as cycle_faults
 use Rattle.time_desk.specs.Cycling.{CanBeUndone, CanRework, Cycles, CyclesAs, CyclesBy, CyclesNone, IsCycleOutcomeOf, IsCycled, IsFit, IsTold, Redoes, RedoesCause, RedoesCycle, RenotesAs, Reworks, RunsOutOfMemoryBy, Tries, TriesNone, after_rewound, asked_then, most_begun, most_reworked, most_tried}
 use Rattle.time_desk.specs.Planning.{BodiesCause}
-use Rattle.time_desk.specs.Replaying.{DeliversOn, ToldOr, cycle_reads, delivered_told, repair_reads, some_deliver, some_marked}
+use Rattle.time_desk.specs.Replaying.{DeliversOn, ToldOr, cycle_reads, delivered_told, repair_reads, some_marked, some_stored}
 use Rattle.std.specs.Option.{option_map_or}
 use Rattle.mail_desk.specs.Held.{Held}
 use Rattle.mail_desk.specs.Timeline.{SizesOf}
@@ -73,7 +73,7 @@ use Rattle.time_desk.specs.Serving.{CanServe, IsNewest, CanBegin, unmarked}
 use Rattle.desk_journal.specs.Submitting.{SealsBytes, SealsNone, SealsNothing}
 use Rattle.desk_journal.specs.Telling.{HoldsHeld, IsOnlyRead, IsPastRead}
 use Rattle.time_desk.proofs.Telling.{cause_later, tells_asked}
-use Rattle.time_desk.proofs.Delivering.{begun_with, deliveries_cause, deliveries_due, held_or, honest_as, repairs_delivery, repairs_marked}
+use Rattle.time_desk.proofs.Delivering.{begun_with, deliveries_cause, held_or, honest_or, repairs_marked, repairs_stored, stored_due}
 use Rattle.desk_journal.proofs.Holding.{noted_later}
 use Rattle.time_desk.proofs.Bounding.{made_length, repaired_few}
 use Rattle.time_desk.proofs.Marking.{made_marks}
@@ -158,7 +158,7 @@ module _ {D : Type 0} (told : D → DiskTold) (held : Held) (t : Task) (task : I
 
   -- or nothing is to be read
   abbrev Told : Type 0
-  Told = ToldOr Holds (repair_reads held.kept t.repair)
+  Told = ToldOr Holds (repair_reads held.kept t.texts t.repair)
 
   within : t.repair.place ≤ length held.kept.timeline
   within = subst (λ (k : Kept). t.repair.place ≤ length k.timeline) can.kept task.place
@@ -188,17 +188,17 @@ module _ {D : Type 0} (told : D → DiskTold) (held : Held) (t : Task) (task : I
       → ((heard : List Item) → take first.count heard ≡ take first.count held.kept.timeline → take first.count (timeline_from held.kept t.at t.repair first.store.store first.count heard) ≡ take first.count held.kept.timeline)
       → (Holds → IsNewest held.kept t.repair.place first) → (some_marked held.kept t.repair.place ≡ false → (first.count ≡ 0) × (first.store.store ≡ held.kept.base))
       → IsPastRead told old mid → (told mid.disk).failed_reads ≡ (told old.disk).failed_reads
-      → r.past.now ≡ mid → r.desk.now ≡ held → r.failed ≡ 0 → DeliversOn told r s t.repair.items items → CountsTextReads (delivered_told told r t.repair.items) (delivered_told told s items) result
+      → r.past.now ≡ mid → r.desk.now ≡ held → r.failed ≡ 0 → r.cycle ≡ held.kept.next → r.replaces.now ≡ t.texts → DeliversOn told r s t.repair.items items → CountsTextReads (delivered_told told r t.repair.items) (delivered_told told s items) result
       → IfOk result (IsMadeFrom t.kept t.at t.repair first.store.store first.count (delivered_told told r t.repair.items).honest)
       → IfOk result (λ made. after ≤ before + (t.repair.place - first.count) + t.repair.acts + made.report.kept + length made.report.notices)
       → OnErr result (after ≤ before + (t.repair.place - first.count) + t.repair.acts + t.repair.kept + length t.kept.house.accounts)
       → Reworks told held t old s.past.now before after result
-  reworks mid r s items before after result bodies base goes front newest unmarked still same past_is held_is none leads counts made steps most = record {
+  reworks mid r s items before after result bodies base goes front newest unmarked still same past_is held_is none cycle_is texts_are leads counts made steps most = record {
     made = made_then result made;
     fit = fit_then result made;
     cause = cause_later told (told old.disk) (told mid.disk) (told s.past.now.disk) result same still.reads.reads.reliable
         (subst (λ (p : PastTold D). BodiesCause (told p.disk) (told s.past.now.disk) result) past_is (deliveries_cause told r s t.repair.items items result leads none counts));
-    due = λ failed. repairs_delivery held.kept t.repair (deliveries_due told r s t.repair.items items result leads none counts failed);
+    due = λ failed. repairs_stored held.kept t.texts t.repair (sym asked_same ∙ stored_due told r s t.repair.items items result leads none counts failed);
     still = read_on told old mid s.past.now still (subst (λ (p : PastTold D). IsPastRead told p s.past.now) past_is leads.reading.reads.still);
     few = λ h. few_then result made steps h;
     most = λ h. most_then result most h;
@@ -206,11 +206,18 @@ module _ {D : Type 0} (told : D → DiskTold) (held : Held) (t : Task) (task : I
     steps = steps_then result made steps;
   }
     where
-      begun : Told → ToldOr (HoldsHeld (told mid.disk) held) (some_deliver t.repair.items) × (first.store.store ≡ store_at held.kept first.count)
-      begun h = begun_with held t.repair.place t.repair.items (told old.disk) (told mid.disk) first still.reads newest unmarked h
+      some : Bool
+      some = some_stored held.kept.next t.texts t.repair.items
+
+      -- what is to be read is so by what the repair brings
+      asked_same : some_stored r.cycle r.replaces.now t.repair.items ≡ some
+      asked_same = ap₂ (λ (c : ℕ) (brought : List (ℕ × List ℕ)). some_stored c brought t.repair.items) cycle_is texts_are
+
+      begun : Told → ToldOr (HoldsHeld (told mid.disk) held) some × (first.store.store ≡ store_at held.kept first.count)
+      begun h = begun_with held t.repair.place some (told old.disk) (told mid.disk) first still.reads newest unmarked h
 
       honest : Told → (delivered_told told r t.repair.items).honest
-      honest h = honest_as told r t.repair.items (told mid.disk) held (ap (λ (p : PastTold D). told p.disk) past_is) held_is (begun h).0
+      honest h = honest_or told r t.repair.items (told mid.disk) held some (ap (λ (p : PastTold D). told p.disk) past_is) held_is (λ none. asked_same ∙ none) (begun h).0
 
       led : Told → first.store.store ≡ store_at held.kept first.count
       led h = (begun h).1
@@ -280,7 +287,7 @@ reworks_none told held t old mid steps result fault why is fault_is cause marked
       made = tt;
       fit = tt;
       cause = cause;
-      due = λ failed. repairs_marked held.kept t.repair (marked (one_fault why bodies_faults.Failed failed));
+      due = λ failed. repairs_marked held.kept t.texts t.repair (marked (one_fault why bodies_faults.Failed failed));
       still = still;
       few = λ h. tt;
       most = λ h. omega arith;
@@ -317,8 +324,8 @@ none_due_for kept ask due refusals.NoMemory some is undue failed = absurd (cc fa
 -- ---- a cycle in memory
 
 -- what is to be read for it, by the place of its point
-pub reads_there : (kept : Kept) (at : ℕ) (ask : CycleAsk) (place : ℕ) → position kept.timeline ask.point ≡ Some place → cycle_reads kept at ask ≡ repair_reads kept (repair_of kept at ask place)
-reads_there kept at ask place is = ap (λ (o : Option ℕ). option_map_or (λ (n : ℕ). repair_reads kept (repair_of kept at ask n)) o false) is
+pub reads_there : (kept : Kept) (at : ℕ) (ask : CycleAsk) (place : ℕ) → position kept.timeline ask.point ≡ Some place → cycle_reads kept at ask ≡ repair_reads kept ask.replaces (repair_of kept at ask place)
+reads_there kept at ask place is = ap (λ (o : Option ℕ). option_map_or (λ (n : ℕ). repair_reads kept ask.replaces (repair_of kept at ask n)) o false) is
 
 -- of what a desk begins with
 pub of_begun : (before kept : Kept) (at : ℕ) (ask : CycleAsk) (t : Task) → before ≡ kept → IsCycle before at ask t → IsCycle kept at ask t
@@ -365,7 +372,7 @@ module _ {D : Type 0} (told : D → DiskTold) (held : Held) (at : ℕ) (ask : Cy
         is_place = is.is_place;
         due = is.due;
         is_made = subst (λ (some : Bool). IsMade held.kept at (repair_of held.kept at ask is.place) (ToldOr (HoldsHeld (told old.disk) held) some) made) (sym (reads_there held.kept at ask is.place is.is_place))
-            (subst (λ (u : Task). IsMade held.kept u.at u.repair (ToldOr (HoldsHeld (told old.disk) held) (repair_reads held.kept u.repair)) made) is.task done.made);
+            (subst (λ (u : Task). IsMade held.kept u.at u.repair (ToldOr (HoldsHeld (told old.disk) held) (repair_reads held.kept u.texts u.repair)) made) is.task done.made);
       }
 
   -- how much of one that failed was performed
@@ -392,7 +399,7 @@ module _ {D : Type 0} (told : D → DiskTold) (held : Held) (at : ℕ) (ask : Cy
       undone = tt;
       refused = rewinds_due is;
       cause = done.cause;
-      due = λ failed. reads_there held.kept at ask is.place is.is_place ∙ subst (λ (u : Task). repair_reads held.kept u.repair ≡ true) is.task (done.due refl);
+      due = λ failed. reads_there held.kept at ask is.place is.is_place ∙ subst (λ (u : Task). repair_reads held.kept u.texts u.repair ≡ true) is.task (done.due refl);
     };
     untouched = λ undue. absurd (undue (rewinds_due is));
     few = λ due due_is h. tt;

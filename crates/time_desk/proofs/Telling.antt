@@ -139,7 +139,7 @@ act_needs_none : (acts : List Act) (number at : ℕ) (told : BodiesTold) → Tel
 act_needs_none [] number at told = tt
 act_needs_none (act ∷ acts) number at told = ((λ needs. absurd (cc needs)), act_needs_none acts (number + 1) at told)
 
-has_some : (d : Deed) → needs_text d ≡ true → is_some (text_in d) ≡ true
+pub has_some : (d : Deed) → needs_text d ≡ true → is_some (text_in d) ≡ true
 has_some (Deliver from to text) needs = refl
 has_some d needs = absurd (cc needs)
 

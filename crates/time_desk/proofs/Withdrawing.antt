@@ -149,8 +149,8 @@ pub withdrawal_due : (kept : Kept) (at of : ℕ) (last : UndoneBehind) → undon
 withdrawal_due kept at of last is left = ap (withdraw_due_at kept at) is ∙ ap (λ (b : Bool). cond b (Rewinds (withdrawn_at kept at last)) NoNumbers) left
 
 -- what is to be read for it
-reads_last : (kept : Kept) (of : ℕ) (last : UndoneBehind) → undone_of kept of ≡ Some last → withdrawal_reads kept of ≡ repair_reads kept (unedit_of kept last)
-reads_last kept of last is = ap (λ (o : Option UndoneBehind). option_map_or (λ (u : UndoneBehind). repair_reads kept (unedit_of kept u)) o false) is
+reads_last : (kept : Kept) (of : ℕ) (last : UndoneBehind) → undone_of kept of ≡ Some last → withdrawal_reads kept of ≡ repair_reads kept [] (unedit_of kept last)
+reads_last kept of last is = ap (λ (o : Option UndoneBehind). option_map_or (λ (u : UndoneBehind). repair_reads kept [] (unedit_of kept u)) o false) is
 
 one_last : (a b : UndoneBehind) → Some a ≡ Some b → a ≡ b
 one_last a b e = cc
@@ -169,7 +169,7 @@ module _ {D : Type 0} (told : D → DiskTold) (held : Held) (at of : ℕ) (last 
         is_last = is_last;
         due = withdrawal_due held.kept at of last is_last left;
         is_made = subst (λ (some : Bool). IsMade held.kept at (unedit_of held.kept last) (ToldOr (HoldsHeld (told old.disk) held) some) made) (sym (reads_last held.kept of last is_last))
-            (subst (λ (u : Task). IsMade held.kept u.at u.repair (ToldOr (HoldsHeld (told old.disk) held) (repair_reads held.kept u.repair)) made) is done.made);
+            (subst (λ (u : Task). IsMade held.kept u.at u.repair (ToldOr (HoldsHeld (told old.disk) held) (repair_reads held.kept u.texts u.repair)) made) is done.made);
       };
       fit = done.fit;
       refused = tt;
@@ -208,7 +208,7 @@ module _ {D : Type 0} (told : D → DiskTold) (held : Held) (at of : ℕ) (last 
       fit = tt;
       refused = rewinds_due;
       cause = done.cause;
-      due = λ failed. reads_last held.kept of last is_last ∙ subst (λ (u : Task). repair_reads held.kept u.repair ≡ true) is (done.due refl);
+      due = λ failed. reads_last held.kept of last is_last ∙ subst (λ (u : Task). repair_reads held.kept u.texts u.repair ≡ true) is (done.due refl);
     };
     untouched = λ undue. absurd (undue rewinds_due);
     few = λ other other_is h. tt;

@@ -17,7 +17,7 @@ use Rattle.repair_desk.specs.Repairs.{position}
 use Rattle.cycle_rules.specs.Cutting.{cut, texts_by}
 use Rattle.mail_desk.specs.Counting.{bare_item}
 use Rattle.base_cut.specs.declared.parts.CutParts.{CutParts}
-use Rattle.time_desk.specs.Replaying.{cut_reads}
+use Rattle.time_desk.specs.Replaying.{ToldOr, cut_reads, rests_on_disk}
 use Rattle.time_desk.specs.declared.fault.CycleFault.{CycleFault}
 use Rattle.time_desk.specs.declared.fault.CycleFault.TheVariants.{Point, Numbers, Disk, NoMemory, Closed}
 
@@ -35,9 +35,10 @@ pub record AreParts (kept : Kept) (parts : CutParts) : Type 0 where
   pub head_spelled : HasSpelling (Format kept.house kept.opening)
   pub base_spelled : HasSpelling (base_record kept)
 
--- the timeline has the point; and where the texts are told as they were stored, the parts are those of what is kept, cut there
+-- the timeline has the point; and where the texts are told as they were stored, or the cut does not rest on them, the parts are those of
+-- what is kept, cut there
 abbrev pub Cuts : Kept → ℕ → Type 0 → CutParts → Type 0
-Cuts kept point told parts = (place : ℕ) × (position kept.timeline point ≡ Some place) × (told → AreParts (cut kept place) parts)
+Cuts kept point told parts = (place : ℕ) × (position kept.timeline point ≡ Some place) × (ToldOr told (rests_on_disk kept place) → AreParts (cut kept place) parts)
 
 -- Why there are no parts: the timeline does not have the point, exactly where it says so. Or it has it, and a read failed, exactly where it
 -- says so; no read fails where nothing is to be read. Want of memory is free.

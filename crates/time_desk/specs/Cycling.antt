@@ -98,10 +98,10 @@ pub record CanRework {D : Type 0} (told : D → DiskTold) (held : Held) (gate : 
 -- where that is why there is none, and something was to be read. The disk was read alone, and steps were counted from the newest
 -- snapshot on, also where there is none: no item was performed twice.
 pub record Reworks {D : Type 0} (told : D → DiskTold) (held : Held) (t : Task) (old new : PastTold D) (before after : ℕ) (result : Result Rewound BodiesFault) : Type 0 where
-  pub made : IfOk result (IsMade held.kept t.at t.repair (ToldOr (HoldsHeld (told old.disk) held) (repair_reads held.kept t.repair)))
+  pub made : IfOk result (IsMade held.kept t.at t.repair (ToldOr (HoldsHeld (told old.disk) held) (repair_reads held.kept t.texts t.repair)))
   pub fit : IfOk result (IsFit held.kept)
   pub cause : BodiesCause (told old.disk) (told new.disk) result
-  pub due : IsErrOf result Failed → IsTrue (repair_reads held.kept t.repair)
+  pub due : IsErrOf result Failed → IsTrue (repair_reads held.kept t.texts t.repair)
   pub still : IsPastRead told old new
   pub few : HoldsHeld (told old.disk) held → OnOk result (after ≤ before + most_reworked held.kept t.repair.acts (reworked held.kept t.at t.repair))
   pub most : HoldsHeld (told old.disk) held → OnErr result (after ≤ before + most_begun held.kept t.repair.acts (reworked held.kept t.at t.repair))

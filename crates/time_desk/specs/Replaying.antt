@@ -1,10 +1,13 @@
--- What is read where items are performed again: a snapshot, where one is marked from which to begin, and the texts of deliveries, and of no other item.
-use Rattle.std.proofs.Common.{◌≡◌, ◌⊎◌, ℕ, zero, suc, ◌<◌, ◌==◌, ◌||◌, ◌&&◌, not, Bool, true, false, List, [], ◌∷◌, length, take, refl, sym, subst, ◌∙◌, arith}
+-- What is read where items are performed again: a snapshot, where one is marked from which to begin, and the texts of deliveries that the
+-- request does not bring, and of no other item.
+use Rattle.std.proofs.Common.{◌≡◌, ◌⊎◌, ℕ, zero, suc, ◌<◌, ◌==◌, ◌||◌, ◌&&◌, not, bytes_eq, Bool, true, false, List, [], ◌∷◌, length, take, refl, sym, subst, ◌∙◌, arith}
 use Rattle.std.specs.List.{list_any}
+use Rattle.std.specs.Prelude.{unwrap_or}
 use Rattle.std.specs.Option.{option_map_or}
 use Rattle.undo_outside.specs.Disk.{DiskTold, IsHonest}
 use Rattle.verb_core.specs.declared.item.Item.{Item}
 use Rattle.verb_core.specs.declared.mailbox.Body.{Body}
+use Rattle.verb_core.specs.Items.{text_in}
 use Rattle.verb_core.specs.Texts.{BodiesTold}
 use Rattle.verb_bytes.specs.declared.journal.CycleAsk.{CycleAsk}
 use Rattle.withdraw.specs.declared.undone.UndoneBehind.{UndoneBehind}
@@ -14,10 +17,10 @@ use Rattle.repair_desk.specs.Repairs.{position}
 use Rattle.cycle_rules.specs.Cycles.{repair_of}
 use Rattle.cycle_rules.specs.Repairing.{Repair}
 use Rattle.cycle_rules.specs.Withdrawals.{unedit_of}
-use Rattle.mail_desk.specs.Timeline.{item_of}
+use Rattle.mail_desk.specs.Timeline.{body_of, item_of}
 use Rattle.desk_journal.specs.declared.read_texts.Reading.{Reading}
 use Rattle.desk_journal.specs.Going.{leads_on, leads_to_itself}
-use Rattle.desk_journal.specs.Telling.{HoldsHeld, LeadsOn, is_told, text_told}
+use Rattle.desk_journal.specs.Telling.{HoldsHeld, LeadsOn, asked_of, is_told, text_told}
 use Rattle.time_desk.specs.Unfiltered.{are_unfiltered}
 use Rattle.time_desk.specs.declared.deliveries.Deliveries.{Deliveries}
 use Rattle.time_desk.specs.declared.deliveries.DueDeliveries.{DueDeliveries}
@@ -26,9 +29,21 @@ use Rattle.time_desk.specs.declared.deliveries.DueDeliveries.{DueDeliveries}
 abbrev pub some_deliver : List Item → Bool
 some_deliver items = list_any (λ (i : Item). needs_text i.deed) items
 
--- whether a body is a text of such an item
+-- whether a request that brings texts as the cycle c brings that of an item
+abbrev pub is_brought : ℕ → List (ℕ × List ℕ) → Item → Bool
+is_brought c brought i = option_map_or (λ (text : List ℕ). bytes_eq text (unwrap_or (text_in i.deed) [])) (asked_of c brought (body_of i)) false
+
+-- whether the text of an item is to be read: performing it looks at that, and the request does not bring it
+abbrev pub is_stored : ℕ → List (ℕ × List ℕ) → Item → Bool
+is_stored c brought i = needs_text i.deed && not (is_brought c brought i)
+
+-- whether that of one of these items is
+abbrev pub some_stored : ℕ → List (ℕ × List ℕ) → List Item → Bool
+some_stored c brought items = list_any (is_stored c brought) items
+
+-- whether a body is that of the text of a delivery among items
 abbrev pub is_delivered : List Item → Body → Bool
-is_delivered items body = option_map_or (λ (i : Item). needs_text i.deed) (item_of items body.origin) false
+is_delivered items body = option_map_or (λ (i : Item). needs_text i.deed && i.rev == body.rev) (item_of items body.origin) false
 
 -- whether there is any
 abbrev pub some_of : {X : Type 0} → List X → Bool
@@ -47,21 +62,26 @@ reads_behind kept place = some_marked kept place || some_deliver kept.timeline
 abbrev pub plan_reads : Kept → ℕ → Bool
 plan_reads kept point = option_map_or (reads_behind kept) (position kept.timeline point) false
 
--- whether something is to be read for a repair: a snapshot at or before its place, or the text of one of its items
-abbrev pub repair_reads : Kept → Repair → Bool
-repair_reads kept repair = some_marked kept repair.place || some_deliver repair.items
+-- whether something is to be read for a repair that brings texts: a snapshot at or before its place, or the text of one of its items
+abbrev pub repair_reads : Kept → List (ℕ × List ℕ) → Repair → Bool
+repair_reads kept brought repair = some_marked kept repair.place || some_stored kept.next brought repair.items
 
 -- for a cycle: nothing, where the timeline does not have its point
 abbrev pub cycle_reads : Kept → ℕ → CycleAsk → Bool
-cycle_reads kept at ask = option_map_or (λ (place : ℕ). repair_reads kept (repair_of kept at ask place)) (position kept.timeline ask.point) false
+cycle_reads kept at ask = option_map_or (λ (place : ℕ). repair_reads kept ask.replaces (repair_of kept at ask place)) (position kept.timeline ask.point) false
 
--- for a withdrawal: nothing, where its cycle is not the last of all
+-- for a withdrawal, which brings none: nothing, where its cycle is not the last of all
 abbrev pub withdrawal_reads : Kept → ℕ → Bool
-withdrawal_reads kept of = option_map_or (λ (last : UndoneBehind). repair_reads kept (unedit_of kept last)) (undone_of kept of) false
+withdrawal_reads kept of = option_map_or (λ (last : UndoneBehind). repair_reads kept [] (unedit_of kept last)) (undone_of kept of) false
 
 -- for the store that the items through a place led to: where nothing is marked, no text unless a filter may look at one
 abbrev pub store_reads : Kept → ℕ → Bool
 store_reads kept place = some_marked kept place || (not (are_unfiltered kept.base (take place kept.timeline)) && some_deliver (take place kept.timeline))
+
+-- Whether the store that a cut at a place begins with rests on what the disk holds. The one at hand, behind the last item, does by how it
+-- was made, and another where something is to be read for it.
+abbrev pub rests_on_disk : Kept → ℕ → Bool
+rests_on_disk kept place = place == length kept.timeline || store_reads kept place
 
 -- for a cut at a point: nothing at the last item, whose store is at hand
 abbrev pub cut_reads : Kept → ℕ → Bool
@@ -80,15 +100,15 @@ module _ {D : Type 0} (told : D → DiskTold) where
   delivered_told r items = record {
     holds = λ body. is_told r.desk.now r.past.now.end r.cycle r.replaces.now body && is_delivered items body;
     texts = text_told r.desk.now r.cycle r.replaces.now;
-    honest = ToldOr (HoldsHeld (told r.past.now.disk) r.desk.now) (some_deliver items);
+    honest = ToldOr (HoldsHeld (told r.past.now.disk) r.desk.now) (some_stored r.cycle r.replaces.now items);
     faults = r.failed;
   }
 
-  -- the disk was read, and all else is the same; a read fails only where there is a delivery
+  -- the disk was read, and all else is the same; a read fails only where a text is to be read
   pub record DeliversOn (old new : Reading D) (items items' : List Item) : Type 0 where
     pub reading : LeadsOn told old new
     pub same : items' ≡ items
-    pub due : old.failed ≡ 0 → 0 < new.failed → some_deliver items ≡ true
+    pub due : old.failed ≡ 0 → 0 < new.failed → some_stored old.cycle old.replaces.now items ≡ true
 
   delivers_to_itself : ((disk : D) → (told disk).honest → IsHonest (told disk)) → (r : Reading D) (items : List Item) → DeliversOn r r items items
   delivers_to_itself truth r items = record { reading = leads_to_itself told truth r; same = refl; due = λ none some. absurd (omega (arith, none, some)) }
@@ -100,8 +120,14 @@ module _ {D : Type 0} (told : D → DiskTold) where
     due = λ none some. between mid.failed refl none some;
   }
     where
-      between : (n : ℕ) → mid.failed ≡ n → old.failed ≡ 0 → 0 < new.failed → some_deliver items ≡ true
-      between zero is none some = subst (λ (t : List Item). some_deliver t ≡ true) first.same (second.due is some)
+      at_first : some_stored mid.cycle mid.replaces.now items' ≡ true → some_stored old.cycle old.replaces.now items ≡ true
+      at_first some =
+          subst (λ (t : List Item). some_stored old.cycle old.replaces.now t ≡ true) first.same
+          (subst (λ (brought : List (ℕ × List ℕ)). some_stored old.cycle brought items' ≡ true) first.reading.replaces
+          (subst (λ (c : ℕ). some_stored c mid.replaces.now items' ≡ true) first.reading.cycle some))
+
+      between : (n : ℕ) → mid.failed ≡ n → old.failed ≡ 0 → 0 < new.failed → some_stored old.cycle old.replaces.now items ≡ true
+      between zero is none some = at_first (second.due is some)
       between (suc n) is none some = first.due none (omega (arith, is))
 
   -- of items that are given

@@ -20,7 +20,7 @@ ghost use Rattle.desk_journal.specs.Stored.{HoldsTexts, MarkedBefore, TextsNoted
 ghost use Rattle.desk_journal.specs.Telling.{HoldsHeld, IsOnlyRead, IsPastRead};
 ghost use Rattle.time_desk.specs.Cutting.{AreParts, Cuts, CutsNone, LedBy, bodies_once, body_key, key_body, keys_once};
 ghost use Rattle.time_desk.specs.Planning.{BodiesCause};
-ghost use Rattle.time_desk.specs.Replaying.{some_deliver, store_reads};
+ghost use Rattle.time_desk.specs.Replaying.{ToldOr, rests_on_disk, some_deliver, store_reads};
 ghost use Rattle.time_desk.specs.Unfiltered.{are_unfiltered, brings_no_filter};
 ghost use Rattle.time_desk.specs.Serving.{CanBegin};
 
@@ -222,6 +222,7 @@ fn led<B: Bodies>(
     requires held { AllByRecursion (HoldsOf (B.told bodies.old)) items.now }
     ensures heard { IfOk result (λ made. LedBy store.store items.now made.store) }
     ensures store { (B.told bodies.old).honest → AllByRecursion (StoresOf (B.told bodies.old)) items.now → IfOk result (λ made. made.store ≡ run store.store items.now) }
+    ensures unread { IsTrue (are_unfiltered store.store items.now) → IfOk result (λ made. made.store ≡ run store.store items.now) }
     ensures due { IsErrOf result BodiesFault.Failed → are_unfiltered store.store items.now ≡ false }
     ensures reads { CountsTextReads (B.told bodies.old) (B.told bodies.new) result }
     ensures leads { B.leads bodies.old bodies.new }
@@ -254,6 +255,8 @@ fn led_behind<B: Bodies>(
     requires serves { CanBegin desk.now.kept place first }
     requires texts { TellsAll (B.told bodies.old) (take place desk.now.kept.timeline) }
     ensures store { (B.told bodies.old).honest → first.store.store ≡ store_at desk.now.kept first.count → IfOk result (λ made. made.store ≡ store_at desk.now.kept place) }
+    ensures unread { IsTrue (are_unfiltered first.store.store (drop first.count (take place desk.now.kept.timeline))) → first.store.store ≡ store_at desk.now.kept first.count
+        → IfOk result (λ made. made.store ≡ store_at desk.now.kept place) }
     ensures texts { IfOk result (λ made. IsTrue (all_bodies (has_text_kept desk.now.kept) made.store.boxes)) }
     ensures due { IsErrOf result BodiesFault.Failed → are_unfiltered first.store.store (drop first.count (take place desk.now.kept.timeline)) ≡ false }
     ensures reads { CountsTextReads (B.told bodies.old) (B.told bodies.new) result }
@@ -281,7 +284,8 @@ fn store_from<D: Disk>(
     requires noted { TextsNoted past.old.end desk.now.notes desk.now.kept }
     requires place { place ≤ length desk.now.kept.timeline }
     requires serves { CanBegin desk.now.kept place first }
-    ensures store { HoldsHeld (D.told past.old.disk) desk.now → first.store.store ≡ store_at desk.now.kept first.count → IfOk result (λ made. made.store ≡ store_at desk.now.kept place) }
+    ensures store { ToldOr (HoldsHeld (D.told past.old.disk) desk.now) (not (are_unfiltered first.store.store (drop first.count (take place desk.now.kept.timeline))) && some_deliver (take place desk.now.kept.timeline))
+        → first.store.store ≡ store_at desk.now.kept first.count → IfOk result (λ made. made.store ≡ store_at desk.now.kept place) }
     ensures texts { IfOk result (λ made. IsTrue (all_bodies (has_text_kept desk.now.kept) made.store.boxes)) }
     ensures due { IsErrOf result BodiesFault.Failed
         → (are_unfiltered first.store.store (drop first.count (take place desk.now.kept.timeline)) ≡ false) × IsTrue (some_deliver (take place desk.now.kept.timeline)) }
@@ -306,7 +310,7 @@ fn store_through<D: Disk>(
     requires noted { TextsNoted past.old.end desk.now.notes desk.now.kept }
     requires marked { MarkedBefore past.old.end desk.now.marks }
     requires place { place ≤ length desk.now.kept.timeline }
-    ensures store { HoldsHeld (D.told past.old.disk) desk.now → IfOk result (λ made. made.store ≡ store_at desk.now.kept place) }
+    ensures store { ToldOr (HoldsHeld (D.told past.old.disk) desk.now) (store_reads desk.now.kept place) → IfOk result (λ made. made.store ≡ store_at desk.now.kept place) }
     ensures texts { IfOk result (λ made. IsTrue (all_bodies (has_text_kept desk.now.kept) made.store.boxes)) }
     ensures due { IsErrOf result BodiesFault.Failed → IsTrue (store_reads desk.now.kept place) }
     ensures cause { BodiesCause (D.told past.old.disk) (D.told past.new.disk) result }
@@ -482,7 +486,7 @@ fn parts_behind<D: Disk>(
     requires noted { TextsNoted past.old.end desk.now.notes desk.now.kept }
     requires marked { MarkedBefore past.old.end desk.now.marks }
     requires place { place ≤ length desk.now.kept.timeline }
-    ensures parts { HoldsHeld (D.told past.old.disk) desk.now → IfOk result (AreParts (cut desk.now.kept place)) }
+    ensures parts { ToldOr (HoldsHeld (D.told past.old.disk) desk.now) (store_reads desk.now.kept place) → IfOk result (AreParts (cut desk.now.kept place)) }
     ensures bodies { IfOk result (λ parts. IsTrue (list_all (has_text_kept desk.now.kept) parts.bodies)) }
     ensures texts { IfOk result (λ parts. AllByRecursion (λ (i : TheItem). IsTrue (is_some (text_in i.deed)) → IsTrue (has_text_kept desk.now.kept (body_of i))) parts.kept) }
     ensures spelled { IfOk result (λ parts. AllByRecursion (λ (i : TheItem). HasSpelling (KeptRecord i)) parts.kept) }
@@ -523,7 +527,7 @@ fn parts_at<D: Disk>(
     requires noted { TextsNoted past.old.end desk.now.notes desk.now.kept }
     requires marked { MarkedBefore past.old.end desk.now.marks }
     requires place { place ≤ length desk.now.kept.timeline }
-    ensures parts { HoldsHeld (D.told past.old.disk) desk.now → IfOk result (AreParts (cut desk.now.kept place)) }
+    ensures parts { ToldOr (HoldsHeld (D.told past.old.disk) desk.now) (rests_on_disk desk.now.kept place) → IfOk result (AreParts (cut desk.now.kept place)) }
     ensures bodies { IfOk result (λ parts. IsTrue (list_all (has_text_kept desk.now.kept) parts.bodies)) }
     ensures texts { IfOk result (λ parts. AllByRecursion (λ (i : TheItem). IsTrue (is_some (text_in i.deed)) → IsTrue (has_text_kept desk.now.kept (body_of i))) parts.kept) }
     ensures spelled { IfOk result (λ parts. AllByRecursion (λ (i : TheItem). HasSpelling (KeptRecord i)) parts.kept) }

@@ -408,10 +408,10 @@ impl<D: Disk> Desk<D> {
     /// Does the cycle that is asked for, at a moment. A key that a cycle had is answered with that cycle's report, also on a closed
     /// desk, and nothing changes. Else the cycle is performed beside the desk, its one record is sealed, and what it leaves takes
     /// the place of what was kept. It begins with the newest snapshot at or before its point, and each delivery's text behind that
-    /// is read, once. The items behind the point are worked out level by level on workers, each of which passes the gate before
-    /// each item. At `Disk` what is kept is as before. Either a read failed, nothing changed, and a later call may succeed; or the
-    /// desk is closed from then on, and the record may be in the journal or not. In time that grows as the timeline, the mailboxes
-    /// and these texts.
+    /// is read, once, but for those that the request brings. The items behind the point are worked out level by level on workers,
+    /// each of which passes the gate before each item. At `Disk` what is kept is as before. Either a read failed, nothing changed,
+    /// and a later call may succeed; or the desk is closed from then on, and the record may be in the journal or not. In time that
+    /// grows as the timeline, the mailboxes and these texts.
     pub fn cycle<R: Threads + Sync, G: Gate, L: Ledger>(
         &mut self,
         rt: &R,

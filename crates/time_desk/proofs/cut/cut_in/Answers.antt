@@ -7,6 +7,7 @@ use Rattle.desk_journal.specs.Lasting.{JournalTold}
 use Rattle.desk_journal.specs.Telling.{HoldsHeld}
 use Rattle.time_desk.specs.declared.fault.CycleFault.{CycleFault}
 use Rattle.time_desk.specs.Cutting.{Cuts}
+use Rattle.time_desk.specs.Replaying.{ToldOr, rests_on_disk}
 use Rattle.time_desk.proofs.cut.cut_in.Goals.{in-Ok, in-Err-Failed, in-Err-NoMemory}
 use Rattle.time_desk.proofs.cut.cut_in.Goals as goal
 
@@ -19,7 +20,7 @@ returns-clause-parts g c =
           subst (λ (r : Result CutParts CycleFault). IfOk r (Cuts desk.kept c.args.point (HoldsHeld told desk))) (sym w.result-is) (
             c.in-Some.place,
             ap (λ (t : List Item). position t c.args.point) (sym c.all_items.ensures) ∙ sym c.in-Some.ensures.place,
-            λ holds. w.in-Ok.ensures.parts (subst (λ (j : JournalTold g.row.D.Denot). HoldsHeld (g.D.Disk.told j.disk) desk) (sym c.journal.view_is) holds),
+            λ holds. w.in-Ok.ensures.parts (subst (λ (j : JournalTold g.row.D.Denot). ToldOr (HoldsHeld (g.D.Disk.told j.disk) desk) (rests_on_disk desk.kept c.in-Some.place)) (sym c.journal.view_is) holds),
           )
       | in-Err-Failed w ↦ subst (λ (r : Result CutParts CycleFault). IfOk r (Cuts desk.kept c.args.point (HoldsHeld told desk))) (sym w.result-is) tt
       | in-Err-NoMemory w ↦ subst (λ (r : Result CutParts CycleFault). IfOk r (Cuts desk.kept c.args.point (HoldsHeld told desk))) (sym w.result-is) tt

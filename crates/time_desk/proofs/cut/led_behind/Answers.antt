@@ -40,6 +40,16 @@ returns-clause-store g c = λ honest is.
     (subst (λ (items : List Item). IfOk c.led.result (λ made. made.store ≡ run first.store.store items)) items
     (c.led.ensures.store honest (subst (AllByRecursion (StoresOf told)) (sym items) (between_stored told first.count c.args.place kept.timeline honest c.requires.texts))))
 
+-- also where no text is read
+pub returns-clause-unread : goal.returns-clause-unread
+returns-clause-unread g c = λ unfiltered is.
+    let kept = c.args.desk.now.kept in
+    let first = c.args.first in
+    let items : c.between.result.now ≡ drop first.count (take c.args.place kept.timeline) = search rules in
+    subst (λ (s : MailStore). IfOk c.led.result (λ made. made.store ≡ s)) (led_on kept first.store.store first.count c.args.place c.requires.serves.few is)
+    (subst (λ (items : List Item). IfOk c.led.result (λ made. made.store ≡ run first.store.store items)) items
+    (c.led.ensures.unread (subst (λ (xs : List Item). are_unfiltered first.store.store xs ≡ true) (sym items) unfiltered)))
+
 -- a text is read only where a filter may look at one of these items'
 pub returns-clause-due : goal.returns-clause-due
 returns-clause-due g c = λ failed.

@@ -41,7 +41,7 @@ returns g c =
     c.bodies_have_texts.ensures.behind stands.base
     (λ heard all. c.repairs_leave_states.ensures.from kept due.at due.repair first.store.store first.count heard c.requires.can.goes stands.fresh c.in_ok-first.ensures.serves.few all left)
     (λ heard same. c.repairs_begin_anywhere.ensures.front kept due.at due.repair first.store.store first.count heard c.in_ok-first.ensures.serves.few place same)
-    c.in_ok-first.ensures.newest c.in_ok-first.ensures.first c.prepared.ensures.still c.in_ok-first.ensures.cause r.past.1 r.desk r.failed done.leads done.reads done.made done.steps done.most)
+    c.in_ok-first.ensures.newest c.in_ok-first.ensures.first c.prepared.ensures.still c.in_ok-first.ensures.cause r.past.1 r.desk r.failed (r.cycle ∙ c.next.ensures) (r.replaces ∙ c.in_ok-texts.ensures.texts ∙ c.texts.ensures) done.leads done.reads done.made done.steps done.most)
 
 -- before it nothing was performed
 pub returns-in_err-first : goal.returns-in_err-first
