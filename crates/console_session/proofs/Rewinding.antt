@@ -36,7 +36,7 @@ use Rattle.console_session.specs.Hindrance.{Hindrance, Clear, Unanswered, Unseal
 use Rattle.console_session.specs.Hearing.{AnswersRequest, RunsOutOfMemory, Tells, TellsCycleFault, TellsDiskFault, TellsOnly, TellsRead, TellsUnread, TellsWithdrawFault, reply}
 use Rattle.console_session.proofs.Deciding.{IsSame, kept_decided, text_decided}
 use Rattle.console_session.proofs.Numbering.{record_is_not, IsNew, fresh_is_new, fresh_withdrawal_is_new}
-use Rattle.console_session.proofs.Turns.{Still, Truth, IsQuiet, as_it_was, reads_well, reads_wrong, none_out_of_memory, Wants, Under, turn_at, told_turn, unread_turn, out_of_memory_unread, lost_unread, read_turn, under_as, serves_told, unsealed_turn, rewound_wants, out_of_memory_turn, kept_stays}
+use Rattle.console_session.proofs.Turns.{Still, Truth, IsQuiet, as_it_was, reads_well, reads_wrong, none_out_of_memory, Wants, Under, turn_at, told_turn, unread_turn, out_of_memory_unread, lost_unread, read_turn, under_as, serves_told, unsealed_turn, rewound_wants, out_of_memory_turn, kept_stays, not_closed}
 
 module _ {D : Type 0} (told : D → DiskTold) where
   -- ---- by what is due
@@ -219,22 +219,22 @@ module _ {D : Type 0} (told : D → DiskTold) where
       cycles at ask old new r
       (due_done (cycle_reads old.kept at ask) (pointless ask.point) (Cycle old.kept.next at ask) (after_cycle old.kept ask) (cycle_due old.kept at ask) report old new r (fresh_is_new old.kept at ask fresh) by well finds_memory says)
 
-  pub cycle_not_done : Still told → Truth told → (at : ℕ) (ask : CycleAsk) (old new : Lasting D) (f : CycleFault) (r : Reply) → CyclesNone told at ask old new f
+  pub cycle_not_done : Still told → Truth told → (at : ℕ) (ask : CycleAsk) (old new : Lasting D) (f : CycleFault) (r : Reply) → old.closed ≡ false → CyclesNone told at ask old new f
       → CycleWants told old.disk new.disk f → TellsCycleFault new.closed f r → AnswersRequest told at (Ok (Whole (route.Cycle ask))) old new r
-  cycle_not_done still truth at ask old new (cycle_fault.Point given) r none wants says =
+  cycle_not_done still truth at ask old new (cycle_fault.Point given) r open_ none wants says =
       cycles at ask old new r
       (due_missing still truth (cycle_reads old.kept at ask) (pointless ask.point) (Cycle old.kept.next at ask) (after_cycle old.kept ask) (cycle_due old.kept at ask) old new r none.1 none.3
       (subst (λ (n : ℕ). Tells (pointless n) Closes r) none.2 says))
-  cycle_not_done still truth at ask old new (cycle_fault.Numbers next) r none wants says =
+  cycle_not_done still truth at ask old new (cycle_fault.Numbers next) r open_ none wants says =
       cycles at ask old new r
       (due_numberless still truth (cycle_reads old.kept at ask) (pointless ask.point) (Cycle old.kept.next at ask) (after_cycle old.kept ask) (cycle_due old.kept at ask) next old new r none.1 none.2 none.3 says)
-  cycle_not_done still truth at ask old new cycle_fault.Disk r none finds_memory says =
+  cycle_not_done still truth at ask old new cycle_fault.Disk r open_ none finds_memory says =
       cycles at ask old new r
       (due_failed still (cycle_reads old.kept at ask) (pointless ask.point) (Cycle old.kept.next at ask) (after_cycle old.kept ask) (cycle_due old.kept at ask) old new r none.0 none.1 finds_memory says)
-  cycle_not_done still truth at ask old new cycle_fault.NoMemory r none wants says =
+  cycle_not_done still truth at ask old new cycle_fault.NoMemory r open_ none wants says =
       cycles at ask old new r
       (due_out_of_memory still truth (cycle_reads old.kept at ask) (pointless ask.point) (Cycle old.kept.next at ask) (after_cycle old.kept ask) (cycle_due old.kept at ask) old new r none wants says)
-  cycle_not_done still truth at ask old new cycle_fault.Closed r none wants says = absurd says
+  cycle_not_done still truth at ask old new cycle_fault.Closed r open_ none wants says = absurd (not_closed open_ none.0)
 
   -- ---- withdrawals
 
@@ -260,22 +260,22 @@ module _ {D : Type 0} (told : D → DiskTold) where
       (due_done (withdrawal_reads old.kept of) (uncycled of) (Withdraw old.kept.next at key of) (after_withdrawal old.kept key) (withdraw_due old.kept at key of) report old new r
       (fresh_withdrawal_is_new old.kept at key of fresh) by well finds_memory says)
 
-  pub withdrawal_not_done : Still told → Truth told → (at : ℕ) (key : List ℕ) (of : ℕ) (old new : Lasting D) (f : WithdrawFault) (r : Reply) → WithdrawsNone told at key of old new f
+  pub withdrawal_not_done : Still told → Truth told → (at : ℕ) (key : List ℕ) (of : ℕ) (old new : Lasting D) (f : WithdrawFault) (r : Reply) → old.closed ≡ false → WithdrawsNone told at key of old new f
       → WithdrawalWants told old.disk new.disk f → TellsWithdrawFault new.closed f r → AnswersRequest told at (Ok (Whole (route.Withdraw key of))) old new r
-  withdrawal_not_done still truth at key of old new (withdraw_fault.Cycle given) r none wants says =
+  withdrawal_not_done still truth at key of old new (withdraw_fault.Cycle given) r open_ none wants says =
       withdrawals at key of old new r
       (due_missing still truth (withdrawal_reads old.kept of) (uncycled of) (Withdraw old.kept.next at key of) (after_withdrawal old.kept key) (withdraw_due old.kept at key of) old new r none.1 none.3
       (subst (λ (n : ℕ). Tells (uncycled n) Closes r) none.2 says))
-  withdrawal_not_done still truth at key of old new (withdraw_fault.Numbers next) r none wants says =
+  withdrawal_not_done still truth at key of old new (withdraw_fault.Numbers next) r open_ none wants says =
       withdrawals at key of old new r
       (due_numberless still truth (withdrawal_reads old.kept of) (uncycled of) (Withdraw old.kept.next at key of) (after_withdrawal old.kept key) (withdraw_due old.kept at key of) next old new r none.1 none.2 none.3 says)
-  withdrawal_not_done still truth at key of old new withdraw_fault.Disk r none finds_memory says =
+  withdrawal_not_done still truth at key of old new withdraw_fault.Disk r open_ none finds_memory says =
       withdrawals at key of old new r
       (due_failed still (withdrawal_reads old.kept of) (uncycled of) (Withdraw old.kept.next at key of) (after_withdrawal old.kept key) (withdraw_due old.kept at key of) old new r none.0 none.1 finds_memory says)
-  withdrawal_not_done still truth at key of old new withdraw_fault.NoMemory r none wants says =
+  withdrawal_not_done still truth at key of old new withdraw_fault.NoMemory r open_ none wants says =
       withdrawals at key of old new r
       (due_out_of_memory still truth (withdrawal_reads old.kept of) (uncycled of) (Withdraw old.kept.next at key of) (after_withdrawal old.kept key) (withdraw_due old.kept at key of) old new r none wants says)
-  withdrawal_not_done still truth at key of old new withdraw_fault.Closed r none wants says = absurd says
+  withdrawal_not_done still truth at key of old new withdraw_fault.Closed r open_ none wants says = absurd (not_closed open_ none.0)
 
   -- ---- trials
 

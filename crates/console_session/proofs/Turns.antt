@@ -1,7 +1,7 @@
 -- Replies as turns.
 use Rattle.std.proofs.Common.{◌≡◌, ℕ, Bool, true, false, List, [], ◌∷◌, Option, Some, None, refl, sym, ap, ◌∙◌, subst, arith, inl, inr, true≢false}
 use Rattle.std.specs.Option.{option_map_or}
-use Rattle.std.specs.Prelude.{◌⊎◌, IsSome, length, nat_lt, option_map, unwrap_or, Result, Ok, Err}
+use Rattle.std.specs.Prelude.{◌⊎◌, IsSome, IsTrue, length, nat_lt, option_map, Result, Ok, Err}
 use Rattle.undo_outside.specs.Disk.{DiskTold, IsHonest, ReadFailed, WriteOutOfMemory}
 use Rattle.seal_log.specs.Causes.{FindsMemory, SealWants, RunsOutOfMemory as FindsNone}
 use Rattle.seal_log.proofs.Uses.{reads_none}
@@ -40,12 +40,16 @@ use Rattle.console_replies.specs.Bodies.{body_data, error_data, items_data, numb
 use Rattle.console_session.specs.declared.reply.After.{After}
 use Rattle.console_session.specs.declared.reply.After.TheVariants.{Closes, Fails, Upgrades, Waits}
 use Rattle.console_session.specs.declared.reply.Reply.{Reply}
-use Rattle.console_session.specs.Answers.{Answer, answer, answer_text, plan_answer, planned, pointless, refused, told_plainly}
+use Rattle.console_session.specs.Answers.{Answer, answer, answer_text, plan_answer, planned, pointless, refused, text_answer, told_plainly}
 use Rattle.console_session.specs.ConsoleTurn.{ConsoleTurn, done, failed, kept_as_it_is, tells, upgrade_done, upgraded_once}
 use Rattle.console_session.specs.Hindrance.{Hindrance, Clear, Refused, Unheard, Unanswered, Unsealed, Untold, Unwritten, UnwrittenUnheard, Unread, UnreadRefused, UnreadUnheard, Misread, behind_a_read, behind_a_write, found_under, hindered, lost, misread, read_under, rewound_under, routed_under, sealed_under, out_of_memory, told_under, unanswered, unread, upgraded_under, where_read}
 use Rattle.console_session.specs.Hearing.{IsTurn, AnswersRequest, RunsOutOfMemory, Tells, TellsCycleFault, TellsFault, TellsFound, TellsOnly, TellsRead, TellsReadFault, TellsSealFault, reply}
 use Rattle.console_session.proofs.Deciding.{IsSame, text_decided}
 use Rattle.console_session.proofs.Numbering.{number_left, act_with, act_without, record_is_not, act_seals, less_is}
+
+-- a desk that is open is not closed
+pub not_closed : {b : Bool} → b ≡ false → IsTrue b → ⊥
+not_closed open_ closed = true≢false (sym closed ∙ open_)
 
 -- where no memory is found a turn that seals a record is this
 pub record WantsSo (f : Hindrance → ConsoleTurn) (kept : Kept) : Type 0 where
@@ -279,15 +283,15 @@ module _ {D : Type 0} (told : D → DiskTold) where
       serves_told still at (Ok (Whole (route.Act act))) (answer 507 (numbers_data old.kept.next)) Closes old new r (as_it_was truth old new same) (λ h. act_without h at old.kept act e)
       (subst (λ (n : ℕ). Tells (answer 507 (numbers_data n)) Closes r) is_next says)
 
-  pub act_not_done : Still → Truth → (at : ℕ) (act : Act) (old new : Lasting D) (f : ActFault) (r : Reply) → ActsNone told at act old new f → new.kept ≡ old.kept → ReadsWell told old new
+  pub act_not_done : Still → Truth → (at : ℕ) (act : Act) (old new : Lasting D) (f : ActFault) (r : Reply) → old.closed ≡ false → ActsNone told at act old new f → new.kept ≡ old.kept → ReadsWell told old new
       → ActWants told old.disk new.disk f → TellsFault f r → AnswersRequest told at (Ok (Whole (route.Act act))) old new r
-  act_not_done still truth at act old new (fault.Numbers next) r none kept well wants says = none_left still truth at next act old new r none.1 none.2 none.3 says
-  act_not_done still truth at act old new fault.Disk r none kept well finds_memory says =
+  act_not_done still truth at act old new (fault.Numbers next) r open_ none kept well wants says = none_left still truth at next act old new r none.1 none.2 none.3 says
+  act_not_done still truth at act old new fault.Disk r open_ none kept well finds_memory says =
       acts at act old new r (less_is old.kept.next none.1) (unsealed_turn _ (Operator old.kept.next at act) old new r refl refl says kept none.2 well finds_memory)
-  act_not_done still truth at act old new fault.NoMemory r none kept well wants says =
+  act_not_done still truth at act old new fault.NoMemory r open_ none kept well wants says =
       acts at act old new r (less_is old.kept.next none.1)
       (out_of_memory_turn _ old new r (sealed_wants old.kept (done at old.kept act) (failed old.kept (Operator old.kept.next at act))) kept none.2 well (wants_of old new wants) says)
-  act_not_done still truth at act old new fault.Closed r none kept well wants says = absurd says
+  act_not_done still truth at act old new fault.Closed r open_ none kept well wants says = absurd (not_closed open_ none.0)
 
   -- ---- snapshots
 
@@ -310,15 +314,15 @@ module _ {D : Type 0} (told : D → DiskTold) where
   snapshot_done at items old new r says count kept seals well finds_memory =
       snaps at old new r (kept_turn old new r (subst (λ (n : ℕ). TellsOnly (answer 200 (items_data n)) Closes r) count says) kept seals well finds_memory)
 
-  pub snapshot_not_done : {X : Type 0} → (at : ℕ) (old new : Lasting D) (f : SealFault) (r : Reply) → SnapshotsNone told old new f → ReadsWell told old new → SealWants {T = X} told old.disk new.disk (Err f)
+  pub snapshot_not_done : {X : Type 0} → (at : ℕ) (old new : Lasting D) (f : SealFault) (r : Reply) → old.closed ≡ false → SnapshotsNone told old new f → ReadsWell told old new → SealWants {T = X} told old.disk new.disk (Err f)
       → TellsSealFault f r → AnswersRequest told at (Ok (Whole route.Snapshot)) old new r
-  snapshot_not_done at old new seal_fault.Disk r none well wants says =
+  snapshot_not_done at old new seal_fault.Disk r open_ none well wants says =
       snaps at old new r (unsealed_turn _ (snapshot_record old.kept) old new r refl refl says (kept_stays old new (none.1.kept (inr refl))) none.1 well (wants.disk refl))
-  snapshot_not_done at old new seal_fault.NoMemory r none well wants says =
+  snapshot_not_done at old new seal_fault.NoMemory r open_ none well wants says =
       snaps at old new r
       (out_of_memory_turn _ old new r (sealed_wants old.kept (kept_as_it_is old.kept) (failed old.kept (snapshot_record old.kept))) (kept_stays old new (none.1.kept (inr refl))) none.1 well
       (wants_of old new (wants.no_memory refl)) says)
-  snapshot_not_done at old new seal_fault.Closed r none well wants says = absurd says
+  snapshot_not_done at old new seal_fault.Closed r open_ none well wants says = absurd (not_closed open_ none.0)
 
   -- ---- upgrades
 
@@ -359,15 +363,15 @@ module _ {D : Type 0} (told : D → DiskTold) where
   upgrade_sealed at old new r flat (inl again) well finds_memory says = absurd (true≢false (sym again.0 ∙ flat))
   upgrade_sealed at old new r flat (inr once) well finds_memory says = upgrades at old new r flat (upgraded_turn at old new r says once.1.1 once.1.2 well finds_memory)
 
-  pub upgrade_not_sealed : {X : Type 0} → (at : ℕ) (old new : Lasting D) (f : SealFault) (r : Reply) → old.kept.deep ≡ false → UpgradesNone told at old new f → ReadsWell told old new
+  pub upgrade_not_sealed : {X : Type 0} → (at : ℕ) (old new : Lasting D) (f : SealFault) (r : Reply) → old.closed ≡ false → old.kept.deep ≡ false → UpgradesNone told at old new f → ReadsWell told old new
       → SealWants {T = X} told old.disk new.disk (Err f) → TellsSealFault f r → AnswersRequest told at (Ok (Whole route.Upgrade)) old new r
-  upgrade_not_sealed at old new seal_fault.Disk r flat none well wants says =
+  upgrade_not_sealed at old new seal_fault.Disk r open_ flat none well wants says =
       upgrades at old new r flat (unsealed_turn _ (Upgrade at) old new r refl refl says (kept_stays old new (none.1.kept (inr refl))) none.1 well (wants.disk refl))
-  upgrade_not_sealed at old new seal_fault.NoMemory r flat none well wants says =
+  upgrade_not_sealed at old new seal_fault.NoMemory r open_ flat none well wants says =
       upgrades at old new r flat
       (out_of_memory_turn _ old new r (sealed_wants old.kept (upgrade_done at old.kept) (failed old.kept (Upgrade at))) (kept_stays old new (none.1.kept (inr refl))) none.1 well
       (wants_of old new (wants.no_memory refl)) says)
-  upgrade_not_sealed at old new seal_fault.Closed r flat none well wants says = absurd says
+  upgrade_not_sealed at old new seal_fault.Closed r open_ flat none well wants says = absurd (not_closed open_ none.0)
 
   -- ---- plans
 
@@ -406,14 +410,14 @@ module _ {D : Type 0} (told : D → DiskTold) where
 
   -- a text that was read, or is in memory, is told
   pub text_told : (body : Body) (read : Option (List ℕ)) (old new : Lasting D) (r : Reply) → (HoldsTexts told old → read ≡ text_kept old.kept body) → (some : Bool) → (some ≡ false → read ≡ text_kept old.kept body)
-      → ReadsWell told old new → Tells (answer 200 (body_data (unwrap_or read []) body.rev)) Closes r → (text : List ℕ) → text_kept old.kept body ≡ Some text → TellsRead told some (answer 200 (body_data text body.rev)) old new r
+      → ReadsWell told old new → Tells (text_answer read body.rev) Closes r → (text : List ℕ) → text_kept old.kept body ≡ Some text → TellsRead told some (answer 200 (body_data text body.rev)) old new r
   text_told body read old new r holds some memory well says text is =
-      inl (answer 200 (body_data (unwrap_or read []) body.rev), due, well, says)
+      inl (text_answer read body.rev, due, well, says)
     where
-      as_answer : read ≡ text_kept old.kept body → answer 200 (body_data (unwrap_or read []) body.rev) ≡ answer 200 (body_data text body.rev)
-      as_answer e = ap (λ (o : Option (List ℕ)). answer 200 (body_data (unwrap_or o []) body.rev)) (e ∙ is)
+      as_answer : read ≡ text_kept old.kept body → text_answer read body.rev ≡ answer 200 (body_data text body.rev)
+      as_answer e = ap (λ (o : Option (List ℕ)). text_answer o body.rev) (e ∙ is)
 
-      due : HoldsTexts told old ⊎ (some ≡ false) → answer 200 (body_data (unwrap_or read []) body.rev) ≡ answer 200 (body_data text body.rev)
+      due : HoldsTexts told old ⊎ (some ≡ false) → text_answer read body.rev ≡ answer 200 (body_data text body.rev)
       due (inl h) = as_answer (holds h)
       due (inr none) = as_answer (memory none)
 

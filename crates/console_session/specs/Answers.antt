@@ -88,6 +88,10 @@ box_answer kept user name = found (box_found kept user name)
 abbrev pub body_at : ℕ → ℕ → Body
 body_at number rev = record { origin = number; rev = rev }
 
+-- a text with its rev, or that there is none
+abbrev pub text_answer : Option (List ℕ) → ℕ → Answer
+text_answer text rev = found (option_map (λ (t : List ℕ). body_data t rev) text)
+
 -- the text that an item brings, and its rev
 abbrev pub body_told : Item → Option Data
 body_told i = option_map (λ (text : List ℕ). body_data text i.rev) (text_in i.deed)

@@ -51,18 +51,18 @@ Tells a after r = (r ≡ reply (answer_text a) after) ⊎ RunsOutOfMemory r
 abbrev pub TellsOnly : Answer → After → Reply → Type 0
 TellsOnly a after r = (r ≡ reply (answer_text a) after) ⊎ (r ≡ reply [] after)
 
--- why an act was not done is told
+-- why an act was not done is told; a desk is closed since a record could not be sealed, and that is told then
 abbrev pub TellsFault : ActFault → Reply → Type 0
 TellsFault (fault.Numbers next) r = Tells (answer 507 (numbers_data next)) Closes r
 TellsFault fault.Disk r = TellsOnly (answer 500 (error_data Disk)) Fails r
 TellsFault fault.NoMemory r = RunsOutOfMemory r
-TellsFault fault.Closed r = ⊥
+TellsFault fault.Closed r = TellsOnly (answer 500 (error_data Disk)) Fails r
 
 -- why the record of a snapshot or an upgrade was not sealed is told
 abbrev pub TellsSealFault : SealFault → Reply → Type 0
 TellsSealFault seal_fault.Disk r = TellsOnly (answer 500 (error_data Disk)) Fails r
 TellsSealFault seal_fault.NoMemory r = RunsOutOfMemory r
-TellsSealFault seal_fault.Closed r = ⊥
+TellsSealFault seal_fault.Closed r = TellsOnly (answer 500 (error_data Disk)) Fails r
 
 -- that a text could not be read is told, or want of memory
 abbrev pub TellsUnread : Reply → Type 0
@@ -84,7 +84,7 @@ TellsCycleFault closed (cycle_fault.Point given) r = Tells (pointless given) Clo
 TellsCycleFault closed (cycle_fault.Numbers next) r = Tells (answer 507 (numbers_data next)) Closes r
 TellsCycleFault closed cycle_fault.Disk r = TellsDiskFault closed r
 TellsCycleFault closed cycle_fault.NoMemory r = RunsOutOfMemory r
-TellsCycleFault closed cycle_fault.Closed r = ⊥
+TellsCycleFault closed cycle_fault.Closed r = TellsDiskFault true r
 
 -- why a cycle was not withdrawn is told, over a desk that is closed then or is not
 abbrev pub TellsWithdrawFault : Bool → WithdrawFault → Reply → Type 0
@@ -92,7 +92,7 @@ TellsWithdrawFault closed (withdraw_fault.Cycle given) r = Tells (uncycled given
 TellsWithdrawFault closed (withdraw_fault.Numbers next) r = Tells (answer 507 (numbers_data next)) Closes r
 TellsWithdrawFault closed withdraw_fault.Disk r = TellsDiskFault closed r
 TellsWithdrawFault closed withdraw_fault.NoMemory r = RunsOutOfMemory r
-TellsWithdrawFault closed withdraw_fault.Closed r = ⊥
+TellsWithdrawFault closed withdraw_fault.Closed r = TellsDiskFault true r
 
 -- ---- turns
 

@@ -18,14 +18,13 @@ use verb_core::Act;
 
 /// Tells why an act was not done.
 fn tell_fault(alloc: Global, fault: ActFault) -> Reply
-    requires { fault ≡ ActFault.Closed → ⊥ }
     ensures { TellsFault fault result }
 {
     match fault {
         ActFault::Numbers { next } => { tell(alloc, 507, numbers_json(alloc, next), After::Closes) }
         ActFault::Disk => tell_unsealed(alloc),
         ActFault::NoMemory => run_out_of_memory(alloc),
-        ActFault::Closed => unreachable!(),
+        ActFault::Closed => tell_unsealed(alloc),
     }
 }
 

@@ -40,7 +40,6 @@ pub(crate) fn tell_disk_fault(alloc: Global, closed: bool) -> Reply
 
 /// Tells why a cycle was not done, or what was asked of the past not told, over a desk that is closed or is not.
 pub(crate) fn tell_fault(alloc: Global, fault: CycleFault, closed: bool) -> Reply
-    requires { fault ≡ CycleFault.Closed → ⊥ }
     ensures { TellsCycleFault closed fault result }
 {
     match fault {
@@ -48,7 +47,7 @@ pub(crate) fn tell_fault(alloc: Global, fault: CycleFault, closed: bool) -> Repl
         CycleFault::Numbers { next } => tell(alloc, 507, numbers_json(alloc, next), After::Closes),
         CycleFault::Disk => tell_disk_fault(alloc, closed),
         CycleFault::NoMemory => run_out_of_memory(alloc),
-        CycleFault::Closed => unreachable!(),
+        CycleFault::Closed => tell_unsealed(alloc),
     }
 }
 

@@ -1,5 +1,5 @@
 //! The routes that look at the desk, and the refusals of requests.
-ghost use Rattle.std.specs.Prelude.{◌≡◌, List, [], ℕ, IfOk, IsSome, IsTrue, Some, unwrap_or};
+ghost use Rattle.std.specs.Prelude.{◌≡◌, List, ℕ, IfOk, IsTrue, Some, unwrap_or};
 ghost use Rattle.serde_json.specs.Written.{compact_text};
 ghost use Rattle.console_replies.specs.Bodies.{body_data, error_data};
 ghost use Rattle.console_replies.specs.Reply.{is_status};
@@ -10,7 +10,7 @@ ghost use Rattle.repair_desk.specs.Repairs.{position};
 ghost use Rattle.time_desk.specs.Replaying.{plan_reads};
 ghost use Rattle.desk_journal.specs.Reading.{IsStill};
 ghost use Rattle.desk_journal.specs.Stored.{is_recorded};
-ghost use Rattle.console_session.specs.Answers.{answer, body_answer, body_at, body_found, box_answer, conf_answer, counted_as, is_text_recorded, not_found, plan_answer, refused, status_answer, timeline_answer};
+ghost use Rattle.console_session.specs.Answers.{answer, body_answer, body_at, body_found, box_answer, conf_answer, counted_as, is_text_recorded, not_found, plan_answer, refused, status_answer, text_answer, timeline_answer};
 ghost use Rattle.console_session.specs.Hearing.{Tells, TellsFound, TellsRead, TellsReadFault};
 ghost use Rattle.console_session.specs.declared.reply.After.TheVariants as after;
 ghost use Rattle.store_kept.specs.Texts.{has_text_kept, text_kept};
@@ -96,17 +96,16 @@ pub fn tell_box<D: Disk>(alloc: Global, desk: &Desk<D>, user: User, name: &Name)
     }
 }
 
-/// A text that was found.
+/// A text that was found, or that there is none.
 fn tell_found(alloc: Global, found: Option<Text>, rev: u32) -> Reply
-    requires { IsSome found }
-    ensures { Tells (answer 200 (body_data (unwrap_or found []) rev)) after.Closes result }
+    ensures { Tells (text_answer found rev) after.Closes result }
 {
     match found {
         Some(text) => {
             let body = body_json(alloc, text.bytes(), rev);
             tell(alloc, 200, body, After::Closes)
         }
-        None => unreachable!(),
+        None => tell_none(alloc),
     }
 }
 

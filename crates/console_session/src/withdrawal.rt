@@ -9,7 +9,7 @@ ghost use Rattle.console_http.specs.declared.request.Route.TheVariants as route;
 ghost use Rattle.console_session.specs.Hearing.{AnswersRequest, TellsWithdrawFault};
 
 use crate::cycle::{tell_disk_fault, tell_report};
-use crate::reply::{After, Reply, run_out_of_memory, tell, tell_only};
+use crate::reply::{After, Reply, run_out_of_memory, tell, tell_only, tell_unsealed};
 use box_store::Steps;
 use console_replies::{numbers_json, report_json, uncycled_json};
 use paradox::Report;
@@ -24,7 +24,6 @@ use undo_outside::{Disk, Gate};
 
 /// Tells why a cycle was not withdrawn, over a desk that is closed or is not.
 fn tell_fault(alloc: Global, fault: WithdrawFault, closed: bool) -> Reply
-    requires { fault ≡ WithdrawFault.Closed → ⊥ }
     ensures { TellsWithdrawFault closed fault result }
 {
     match fault {
@@ -36,7 +35,7 @@ fn tell_fault(alloc: Global, fault: WithdrawFault, closed: bool) -> Reply
         }
         WithdrawFault::Disk => tell_disk_fault(alloc, closed),
         WithdrawFault::NoMemory => run_out_of_memory(alloc),
-        WithdrawFault::Closed => unreachable!(),
+        WithdrawFault::Closed => tell_unsealed(alloc),
     }
 }
 

@@ -15,5 +15,5 @@ returns-in-Ok g c =
 
 pub returns-in-Err : goal.returns-in-Err
 returns-in-Err g c =
-    act_not_done g.D.Disk.told c.seals_join.ensures.still g.met.D.Disk.tells_truth c.args.at c.args.asked c.args.desk.now c.act.new.self c.in-Err.fault c.tell_fault.result
+    act_not_done g.D.Disk.told c.seals_join.ensures.still g.met.D.Disk.tells_truth c.args.at c.args.asked c.args.desk.now c.act.new.self c.in-Err.fault c.tell_fault.result c.requires.open
     c.in-Err.ensures.why c.in-Err.ensures.err c.act.ensures.reads c.in-Err.ensures.wants c.tell_fault.ensures

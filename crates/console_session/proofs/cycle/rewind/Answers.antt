@@ -15,5 +15,5 @@ returns-in-Ok g c =
 
 pub returns-in-Err : goal.returns-in-Err
 returns-in-Err g c =
-    cycle_not_done g.D.Disk.told c.seals_join.ensures.still g.met.D.Disk.tells_truth c.args.at c.args.ask c.args.desk.now c.rewind_desk.new.desk c.in-Err.fault c.tell_fault.result c.in-Err.ensures.why c.in-Err.ensures.wants
+    cycle_not_done g.D.Disk.told c.seals_join.ensures.still g.met.D.Disk.tells_truth c.args.at c.args.ask c.args.desk.now c.rewind_desk.new.desk c.in-Err.fault c.tell_fault.result c.requires.open c.in-Err.ensures.why c.in-Err.ensures.wants
     (subst (λ (b : Bool). TellsCycleFault b c.in-Err.fault c.tell_fault.result) c.closed.ensures c.tell_fault.ensures)

@@ -9,4 +9,4 @@ returns-in-Ok g c = λ at.
 
 pub returns-in-Err : goal.returns-in-Err
 returns-in-Err g c = λ at.
-    snapshot_not_done g.D.Disk.told at c.args.desk.now c.snapshot.new.self c.in-Err.fault c.tell_fault.result c.in-Err.ensures.why c.snapshot.ensures.reads c.in-Err.ensures.wants c.tell_fault.ensures
+    snapshot_not_done g.D.Disk.told at c.args.desk.now c.snapshot.new.self c.in-Err.fault c.tell_fault.result c.requires c.in-Err.ensures.why c.snapshot.ensures.reads c.in-Err.ensures.wants c.tell_fault.ensures

@@ -15,5 +15,5 @@ returns-in-Ok g c =
 
 pub returns-in-Err : goal.returns-in-Err
 returns-in-Err g c =
-    upgrade_not_sealed g.D.Disk.told c.args.at c.args.desk.now c.upgrade.new.self c.in-Err.fault c.tell_fault.result (sym c.upgraded.ensures ∙ c.if-upgraded.false) c.in-Err.ensures.why c.upgrade.ensures.reads
+    upgrade_not_sealed g.D.Disk.told c.args.at c.args.desk.now c.upgrade.new.self c.in-Err.fault c.tell_fault.result c.requires (sym c.upgraded.ensures ∙ c.if-upgraded.false) c.in-Err.ensures.why c.upgrade.ensures.reads
     c.in-Err.ensures.wants c.tell_fault.ensures

@@ -16,6 +16,6 @@ returns-in-Ok g c =
 
 pub returns-in-Err : goal.returns-in-Err
 returns-in-Err g c =
-    withdrawal_not_done g.D.Disk.told c.seals_join.ensures.still g.met.D.Disk.tells_truth c.args.at c.args.key.now c.args.of c.args.desk.now c.withdraw_desk.new.desk c.in-Err.fault c.tell_fault.result
+    withdrawal_not_done g.D.Disk.told c.seals_join.ensures.still g.met.D.Disk.tells_truth c.args.at c.args.key.now c.args.of c.args.desk.now c.withdraw_desk.new.desk c.in-Err.fault c.tell_fault.result c.requires.open
     c.in-Err.ensures.why c.in-Err.ensures.wants
     (subst (λ (b : Bool). TellsWithdrawFault b c.in-Err.fault c.tell_fault.result) c.closed.ensures c.tell_fault.ensures)
