@@ -16,12 +16,16 @@ use Rattle.verb_core.proofs.ApartLive.{same_live}
 use Rattle.store_kept.specs.Kept.{Kept, performed, store_of}
 use Rattle.mail_desk.specs.Desk.{submitted_as}
 use Rattle.mail_loop.specs.Asked.{Asked, asked_as, does, fails, runs_out_of_memory, unsealed_as, unwritten}
+use Rattle.mail_loop.specs.Afterwards.{gone_between}
+use Rattle.mail_loop.proofs.Taken.{none_gone_of}
 use Rattle.privacy_laws.specs.Agreeing.{Agree}
+use Rattle.privacy_laws.proofs.Gone.{gone_same}
 use Rattle.privacy_laws.proofs.Steps.{agree_after}
 
--- what became of two asks is the same, and what is kept agrees on the user
-pub record SameAsked (h : House) (u : User) (x y : Asked) : Type 0 where
+-- what became of two asks is the same, and takes the same mailboxes away, and what is kept agrees on the user
+pub record SameAsked (h : House) (u : User) (k l : Kept) (x y : Asked) : Type 0 where
   pub outcome : x.outcome ≡ y.outcome
+  pub gone : gone_between k x.kept ≡ gone_between l y.kept
   pub unsealed : x.unsealed ≡ y.unsealed
   pub out_of_memory : x.out_of_memory ≡ y.out_of_memory
   pub kept : Agree h u x.kept y.kept
@@ -109,6 +113,9 @@ module _ (h : House) (u : User) (k l : Kept) (a : Agree h u k l) (at : ℕ) (ask
       same_live (store_of k) (store_of l) (Some u) a.one.valid.rising a.other.valid.rising a.boxes k.next at ask k.deep users
       ∙ (λ j. live (store_of l) (a.next j) at (Some u) ask (a.deep j))
 
+  none_gone : gone_between k k ≡ gone_between l l
+  none_gone = none_gone_of k ∙ sym (none_gone_of l)
+
   done_alike : (item : Item) → live (store_of k) k.next at (Some u) ask k.deep ≡ Ok item → Agree h u (performed k item) (performed l item)
   done_alike item e =
       let i = is_live (store_of k) k.next at (Some u) ask k.deep item e in
@@ -118,29 +125,29 @@ module _ (h : House) (u : User) (k l : Kept) (a : Agree h u k l) (at : ℕ) (ask
       (ap (λ (x : Item). actor x.by x.deed) i.is ∙ its_actor (store_of k) k.next at (Some u) u ask users)
 
   done_as : (r : Result Item Refused) → live (store_of k) k.next at (Some u) ask k.deep ≡ r
-      → SameAsked h u (asked_as (submitted_as k r).outcome (submitted_as k r).kept) (asked_as (submitted_as l r).outcome (submitted_as l r).kept)
-  done_as (Ok item) e = record { outcome = refl; unsealed = refl; out_of_memory = refl; kept = done_alike item e }
-  done_as (Err why) e = record { outcome = refl; unsealed = refl; out_of_memory = refl; kept = a }
+      → SameAsked h u k l (asked_as (submitted_as k r).outcome (submitted_as k r).kept) (asked_as (submitted_as l r).outcome (submitted_as l r).kept)
+  done_as (Ok item) e = record { outcome = refl; gone = gone_same h u k l a at ask item users e (sym lives ∙ e); unsealed = refl; out_of_memory = refl; kept = done_alike item e }
+  done_as (Err why) e = record { outcome = refl; gone = none_gone; unsealed = refl; out_of_memory = refl; kept = a }
 
   -- it is done, or refused
-  pub same_does : SameAsked h u (does at k (Some u) ask) (does at l (Some u) ask)
+  pub same_does : SameAsked h u k l (does at k (Some u) ask) (does at l (Some u) ask)
   same_does =
-      subst (λ (r : Result Item Refused). SameAsked h u (does at k (Some u) ask) (asked_as (submitted_as l r).outcome (submitted_as l r).kept)) lives
+      subst (λ (r : Result Item Refused). SameAsked h u k l (does at k (Some u) ask) (asked_as (submitted_as l r).outcome (submitted_as l r).kept)) lives
       (done_as (live (store_of k) k.next at (Some u) ask k.deep) refl)
 
-  unsealed_alike : (r : Result Item Refused) → SameAsked h u (unsealed_as k r) (unsealed_as l r)
-  unsealed_alike (Ok item) = record { outcome = refl; unsealed = refl; out_of_memory = refl; kept = a }
-  unsealed_alike (Err why) = record { outcome = refl; unsealed = refl; out_of_memory = refl; kept = a }
+  unsealed_alike : (r : Result Item Refused) → SameAsked h u k l (unsealed_as k r) (unsealed_as l r)
+  unsealed_alike (Ok item) = record { outcome = refl; gone = none_gone; unsealed = refl; out_of_memory = refl; kept = a }
+  unsealed_alike (Err why) = record { outcome = refl; gone = none_gone; unsealed = refl; out_of_memory = refl; kept = a }
 
   -- its sealing fails
-  pub same_fails : SameAsked h u (fails at k (Some u) ask) (fails at l (Some u) ask)
+  pub same_fails : SameAsked h u k l (fails at k (Some u) ask) (fails at l (Some u) ask)
   same_fails =
-      subst (λ (r : Result Item Refused). SameAsked h u (fails at k (Some u) ask) (unsealed_as l r)) lives
+      subst (λ (r : Result Item Refused). SameAsked h u k l (fails at k (Some u) ask) (unsealed_as l r)) lives
       (unsealed_alike (live (store_of k) k.next at (Some u) ask k.deep))
 
   -- no memory is found for it
-  pub same_wanting : SameAsked h u (runs_out_of_memory k (Some u) ask) (runs_out_of_memory l (Some u) ask)
-  same_wanting = record { outcome = refl; unsealed = refl; out_of_memory = refl; kept = a }
+  pub same_wanting : SameAsked h u k l (runs_out_of_memory k (Some u) ask) (runs_out_of_memory l (Some u) ask)
+  same_wanting = record { outcome = refl; gone = none_gone; unsealed = refl; out_of_memory = refl; kept = a }
 
-  pub same_unwritten : SameAsked h u (unwritten k (Some u) ask) (unwritten l (Some u) ask)
-  same_unwritten = record { outcome = refl; unsealed = refl; out_of_memory = refl; kept = a }
+  pub same_unwritten : SameAsked h u k l (unwritten k (Some u) ask) (unwritten l (Some u) ask)
+  same_unwritten = record { outcome = refl; gone = none_gone; unsealed = refl; out_of_memory = refl; kept = a }

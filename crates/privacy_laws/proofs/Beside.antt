@@ -21,8 +21,9 @@ use Rattle.store_kept.specs.Texts.{all_bodies, has_text_kept}
 use Rattle.store_kept.proofs.Known.{bodies_weaker}
 use Rattle.mail_desk.specs.Desk.{IsDesk}
 use Rattle.privacy_laws.specs.Agreeing.{Agree, is_alike}
-use Rattle.privacy_laws.specs.Others.{AreAlike, CanFollow, IsOwnItem, Spares, all_performed}
+use Rattle.privacy_laws.specs.Others.{AreAlike, CanFollow, IsOwnItem, IsSameMail, Spares, all_performed}
 use Rattle.privacy_laws.proofs.Bodies.{rows_pass}
+use Rattle.privacy_laws.proofs.Delivered.{agree_mailed}
 use Rattle.privacy_laws.proofs.Steps.{agree_after, agree_held, goes_on, own_stamps}
 use Rattle.privacy_laws.proofs.Texts.{alike_apart, alike_itself, held_there, is_held, not_next}
 
@@ -95,6 +96,12 @@ module _ (h : House) (u : User) (k l : Kept) (a : Agree h u k l) (i j : Item) (o
 pub agree_own : (h : House) (u : User) (k l : Kept) (i j : Item) → Agree h u k l → CanFollow h k i → IsOwnItem u i j → Agree h u (performed k i) (performed l j)
 agree_own h u k l i j a can own = subst (λ (x : Item). Agree h u (performed k i) (performed l x)) own.0 (agree_after h u k l a i can.formed can.number can.left own.1 own.2)
 
+-- the same mail in both, which comes to the same of the user's mailboxes
+pub agree_same : (h : House) (u : User) (k l : Kept) (i j : Item) → Agree h u k l → CanFollow h k i → CanFollow h l j → IsSameMail u k l i j → Agree h u (performed k i) (performed l j)
+agree_same h u k l i j a one other (same, is, aims) =
+    subst (λ (x : Item). Agree h u (performed k i) (performed l x)) same
+    (agree_mailed h u k l a i one (subst (λ (x : Item). CanFollow h l x) (sym same) other) is aims)
+
 -- runs that are alike for a user lead to stores that agree on the user
 pub agree_run : (h : House) (u : User) (k l : Kept) (is js : List Item) → Agree h u k l → AreAlike h u k l is js → Agree h u (all_performed k is) (all_performed l js)
 agree_run h u k l [] [] a alike = a
@@ -103,5 +110,8 @@ agree_run h u k l (i ∷ is) [] a alike = absurd alike
 agree_run h u k l (i ∷ is) (j ∷ js) a (one, other, inl own, more) =
     agree_run h u (performed k i) (performed l j) is js
     (agree_own h u k l i j a one own) more
-agree_run h u k l (i ∷ is) (j ∷ js) a (one, other, inr spare, more) =
+agree_run h u k l (i ∷ is) (j ∷ js) a (one, other, inr (inl mail), more) =
+    agree_run h u (performed k i) (performed l j) is js
+    (agree_same h u k l i j a one other mail) more
+agree_run h u k l (i ∷ is) (j ∷ js) a (one, other, inr (inr spare), more) =
     agree_run h u (performed k i) (performed l j) is js (agree_beside h u k l a i j one other spare.0 spare.1) more

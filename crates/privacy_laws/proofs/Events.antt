@@ -1,9 +1,7 @@
 -- What bytes of an IMAP client's connection lead to, over two states that agree on its user.
-use Rattle.std.proofs.Common.{◌≡◌, inl, inr, ℕ, Bool, true, List, [], ◌∷◌, ◌++◌, Option, None, Some, Result, Ok, Err, refl, ap, ap₂, sym, subst, ◌∙◌, true≢false}
+use Rattle.std.proofs.Common.{◌≡◌, inl, inr, ℕ, Bool, true, List, [], ◌∷◌, ◌++◌, Option, None, Some, Result, Ok, Err, refl, ap, sym, subst, ◌∙◌, true≢false}
 use Rattle.std.specs.List.{list_all}
 use Rattle.std.specs.Cmp.{first_so, second_so}
-use Rattle.std.specs.Prelude.{IfSome}
-use Rattle.std.specs.Option.{option_map}
 use Rattle.undo_base.specs.declared.keys.User.{User}
 use Rattle.seal_log.specs.declared.fault.ReadFault.{ReadFault}
 use Rattle.imap_stream.specs.Commands.{Heard as Stream, emptied}
@@ -21,7 +19,6 @@ use Rattle.verb_core.specs.declared.mailbox.BoxId.{BoxId}
 use Rattle.verb_core.specs.Live.{is_users}
 use Rattle.verb_core.specs.Store.{MailStore}
 use Rattle.verb_core.proofs.Validity.{all_kept, both}
-use Rattle.verb_bytes.specs.declared.journal.JournalRecord.{JournalRecord}
 use Rattle.store_kept.specs.Kept.{Kept, store_of}
 use Rattle.imap_session.specs.declared.dialog.Awaits.{Awaits}
 use Rattle.imap_session.specs.declared.dialog.Awaits.TheVariants.{Nothing, Outcome, Texts}
@@ -37,19 +34,17 @@ use Rattle.imap_session.specs.declared.words.Word.{Word}
 use Rattle.imap_session.specs.Dialog as session
 use Rattle.mail_loop.specs.declared.out.Out.{Out}
 use Rattle.mail_loop.specs.declared.out.Out.TheVariants.{Bye, Read, Say, Submit}
-use Rattle.mail_loop.specs.Hindrance.{Hindrance, Service, first_hindrance, other_hindrances}
+use Rattle.mail_loop.specs.Hindrance.{Hindrance, Service}
 use Rattle.mail_loop.specs.ImapTurn.{answers_awaited, imap_session, imap_speech, obeys, of_imap, out_of_memory, out_of_memory_command, takes, took_by}
 use Rattle.mail_loop.specs.Session.{Took, followed, hindered, is_answer, served, size_in}
 use Rattle.mail_loop.specs.State.{Imap, Seats, State, beside}
-use Rattle.mail_loop.specs.Turn.{Turn}
-use Rattle.mail_loop.specs.TurnCounts.{both_counted}
-use Rattle.mail_loop.specs.Turns.{Outcome as Left, after, goes_on, hears_commands, imap_turn, outcome_of, turns}
+use Rattle.mail_loop.specs.Turns.{hears_commands}
 use Rattle.privacy_laws.specs.Agreeing.{Agree, is_alike}
-use Rattle.privacy_laws.specs.Clients.{IsReaderOf, are_only_of, comes_only, logs_in_only, reads_only}
-use Rattle.privacy_laws.specs.Told.{SameHeard}
+use Rattle.privacy_laws.specs.Clients.{IsReaderOf, IsSeatOf, are_only_of, comes_only, logs_in_only, reads_only}
+use Rattle.privacy_laws.proofs.Following.{AlikeHeard, IsSame, heard_by_same, turns_same}
 use Rattle.privacy_laws.proofs.Outside.{IsSaying, SameOutside, outside}
 use Rattle.privacy_laws.proofs.Reading.{FitsOut, SameTook, same_obey, settle_same}
-use Rattle.privacy_laws.proofs.Services.{Alike, SameService, same_lost, same_row}
+use Rattle.privacy_laws.proofs.Services.{Alike, SameService, if_some, same_lost, same_row}
 use Rattle.privacy_laws.proofs.Texts.{is_held}
 use Rattle.privacy_laws.proofs.Turning.{AsksOwn, OwnSpeech, WantsOwn, same_followed}
 
@@ -192,11 +187,11 @@ module _ (h : House) (u : User) (k l : Kept) (a : Agree h u k l) where
   left_without (what.Examine mailbox) d mine = left_unselected d mine
   left_without _ d mine = mine
 
-  wanting_read : (d : Dialog) (reading : Reading) → IsReaderOf u d → Alike (IsReaderOf u) h u (out_of_memory_command k d reading) (out_of_memory_command l d reading)
-  wanting_read d (Ok command) mine = record { same = record { said = refl; dialog = refl; unsealed = refl; counts = refl; kept = a }; mine = left_without command.what d mine }
+  wanting_read : (d : Dialog) (reading : Reading) → IsReaderOf u d → Alike (IsReaderOf u) (Agree h u) (out_of_memory_command k d reading) (out_of_memory_command l d reading)
+  wanting_read d (Ok command) mine = record { same = record { said = refl; dialog = refl; gone = refl; unsealed = refl; counts = refl; kept = a }; mine = left_without command.what d mine }
   wanting_read d (Err why) mine = same_lost h u k l a (IsReaderOf u)
 
-  wanting : (d : Dialog) (next : Next) → IsReaderOf u d → Alike (IsReaderOf u) h u (out_of_memory k d next) (out_of_memory l d next)
+  wanting : (d : Dialog) (next : Next) → IsReaderOf u d → Alike (IsReaderOf u) (Agree h u) (out_of_memory k d next) (out_of_memory l d next)
   wanting d (Command raw) mine = wanting_read d (command_of raw) mine
   wanting d (Mark length) mine = same_lost h u k l a (IsReaderOf u)
   wanting d (Bad line) mine = same_lost h u k l a (IsReaderOf u)
@@ -205,67 +200,42 @@ module _ (h : House) (u : User) (k l : Kept) (a : Agree h u k l) where
   -- ---- a turn
 
   served_same : (at : ℕ) (others others' : Seats) (d : Dialog) (next : Next) → IsReaderOf u d → comes_only h u next ≡ true → (x y : Service) → SameService h u k l x y
-      → Alike (IsReaderOf u) h u (served imap_session x at k others d next) (served imap_session y at l others' d next)
+      → Alike (IsReaderOf u) (Agree h u) (served imap_session x at k others d next) (served imap_session y at l others' d next)
   served_same at others others' d next mine only x y serves =
       let t : Took Dialog = takes k d next in
       let same : IsTaken u (is_alike k l) t (takes l d next) = takes_same d next mine only in
-      subst (λ (w : Took Dialog). Alike (IsReaderOf u) h u (followed imap_speech x k t.out t.dialog) (followed imap_speech y l w.out w.dialog)) same.is
+      subst (λ (w : Took Dialog). Alike (IsReaderOf u) (Agree h u) (followed imap_speech x k t.out t.dialog) (followed imap_speech y l w.out w.dialog)) same.is
       (same_followed imap_speech h u (IsUsers u) (IsReaderOf u) (imap_own h u) k l a x y serves t.out t.dialog same.mine same.wants)
 
   pub turn_same : (i : Hindrance) (at : ℕ) (others others' : Seats) (d : Dialog) (next : Next) → IsReaderOf u d → comes_only h u next ≡ true
-      → Alike (IsReaderOf u) h u (hindered imap_session i at k others d next) (hindered imap_session i at l others' d next)
+      → Alike (IsReaderOf u) (Agree h u) (hindered imap_session i at k others d next) (hindered imap_session i at l others' d next)
   turn_same i at others others' d next mine only =
       same_row h u k l a (IsReaderOf u) i at _ _ (λ desk. served imap_session desk at k others d next) (λ desk. served imap_session desk at l others' d next) (wanting d next mine)
       (served_same at others others' d next mine only)
 
 -- ---- turns
 
--- what turns leave is the same
-record SameLeft (h : House) (u : User) (s t : Left Dialog) : Type 0 where
-  said : s.said ≡ t.said
-  dialog : s.dialog ≡ t.dialog
-  unsealed : s.unsealed ≡ t.unsealed
-  counts : s.counts ≡ t.counts
-  kept : Agree h u s.state.kept t.state.kept
+module _ (h : House) (u : User) where
+  -- a reader's dialog, and what comes of that reader
+  abbrev pub Reads : Dialog → List Next → Type 0
+  Reads d nexts = IsReaderOf u d × (list_all (comes_only h u) nexts ≡ true)
 
-module _ (h : House) (u : User) (at conn : ℕ) where
-  behind : (s t : Left Dialog) (r q : Left Dialog) → SameLeft h u s t → SameLeft h u r q → SameLeft h u (after s.said s.gone s.unsealed s.counts r) (after t.said t.gone t.unsealed t.counts q)
-  behind s t r q one more = record {
-    said = ap₂ (λ (x y : List ℕ). x ++ y) one.said more.said;
-    dialog = more.dialog;
-    unsealed = ap₂ (λ (x y : List JournalRecord). x ++ y) one.unsealed more.unsealed;
-    counts = ap₂ both_counted one.counts more.counts;
-    kept = more.kept;
-  }
-
-  going : (s t : Left Dialog) → SameLeft h u s t → (o : Option Dialog) → IfSome o (IsReaderOf u) → (f g : State → Dialog → Left Dialog)
-      → ((d : Dialog) → IsReaderOf u d → SameLeft h u (f s.state d) (g t.state d)) → SameLeft h u (goes_on s o f) (goes_on t o g)
-  going s t one None mine f g more = record { said = one.said; dialog = refl; unsealed = one.unsealed; counts = one.counts; kept = one.kept }
-  going s t one (Some d) mine f g more = behind s t (f s.state d) (g t.state d) one (more d mine)
-
-  left_by : (s t : State) (x y : Turn Dialog) → Alike (IsReaderOf u) h u x y → SameLeft h u (outcome_of s x) (outcome_of t y)
-  left_by s t x y same = record { said = same.same.said; dialog = same.same.dialog; unsealed = same.same.unsealed; counts = same.same.counts; kept = same.same.kept }
-
-  turns_same : (nexts : List Next) (hs : List Hindrance) (s t : State) (d : Dialog) → Agree h u s.kept t.kept → IsReaderOf u d → list_all (comes_only h u) nexts ≡ true
-      → SameLeft h u (turns (imap_turn at conn) hs s d nexts) (turns (imap_turn at conn) hs t d nexts)
-  turns_same [] hs s t d a mine only = record { said = refl; dialog = refl; unsealed = refl; counts = refl; kept = a }
-  turns_same (next ∷ nexts) hs s t d a mine only =
-      let x : Turn Dialog = hindered imap_session (first_hindrance hs) at s.kept (beside conn s.seats) d next in
-      let y : Turn Dialog = hindered imap_session (first_hindrance hs) at t.kept (beside conn t.seats) d next in
-      let same : Alike (IsReaderOf u) h u x y = turn_same h u s.kept t.kept a (first_hindrance hs) at (beside conn s.seats) (beside conn t.seats) d next mine (first_so _ _ only) in
-      let rest : list_all (comes_only h u) nexts ≡ true = second_so (comes_only h u next) _ only in
-      let f : State → Dialog → Left Dialog = λ s d. turns (imap_turn at conn) (other_hindrances hs) s d nexts in
-      subst (λ (o : Option Dialog). SameLeft h u (goes_on (outcome_of s x) x.dialog f) (goes_on (outcome_of t y) o f)) same.same.dialog
-      (going (outcome_of s x) (outcome_of t y) (left_by s t x y same) x.dialog same.mine f f
-      (λ e its. turns_same nexts (other_hindrances hs) (record { kept = x.kept; seats = s.seats }) (record { kept = y.kept; seats = t.seats }) e same.same.kept its rest))
+  pub nexts_same : (at : ℕ) (others others' : Seats) → IsSame Reads (Agree h u) imap_session at others others'
+  nexts_same at others others' i k l a d next more mine =
+      let turn : Alike (IsReaderOf u) (Agree h u) (hindered imap_session i at k others d next) (hindered imap_session i at l others' d next) =
+      turn_same h u k l a i at others others' d next mine.0 (first_so _ _ mine.1) in
+      record {
+        same = turn.same;
+        mine = if_some (IsReaderOf u) (λ e. Reads e more) (λ e is. (is, second_so (comes_only h u next) _ mine.1)) (hindered imap_session i at k others d next).dialog turn.mine;
+      }
 
   only_more : (nexts : List Next) → list_all (comes_only h u) nexts ≡ true → list_all (comes_only h u) (nexts ++ NotYet ∷ []) ≡ true
   only_more [] only = refl
   only_more (next ∷ nexts) only = both (comes_only h u next) (list_all (comes_only h u) (nexts ++ NotYet ∷ [])) (first_so _ _ only) (only_more nexts (second_so (comes_only h u next) _ only))
 
   -- the turns of what a stream has given
-  pub heard_same : (hs : List Hindrance) (s t : State) (d : Dialog) (stream : Stream) → Agree h u s.kept t.kept → IsReaderOf u d → are_only_of h u stream.said ≡ true
-      → SameHeard h u (hears_commands hs at s conn d stream) (hears_commands hs at t conn d stream)
-  heard_same hs s t d stream a mine only =
-      let left = turns_same (stream.said ++ NotYet ∷ []) hs s t d a mine (only_more stream.said only) in
-      record { said = left.said; seat = ap (option_map (Imap (emptied stream))) left.dialog; unsealed = left.unsealed; counts = left.counts; kept = left.kept }
+  pub heard_same : (at conn : ℕ) (hs : List Hindrance) (s t : State) (d : Dialog) (stream : Stream) → Agree h u s.kept t.kept → IsReaderOf u d → are_only_of h u stream.said ≡ true
+      → AlikeHeard (IsSeatOf u) (Agree h u) (hears_commands hs at s conn d stream) (hears_commands hs at t conn d stream)
+  heard_same at conn hs s t d stream a mine only =
+      heard_by_same Reads (Agree h u) imap_session at conn (IsSeatOf u) (Imap (emptied stream)) (λ e is. is.0) _ _
+      (turns_same Reads (Agree h u) imap_session at conn (stream.said ++ NotYet ∷ []) hs s t d (nexts_same at (beside conn s.seats) (beside conn t.seats)) a (mine, only_more stream.said only))

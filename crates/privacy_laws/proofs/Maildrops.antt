@@ -7,6 +7,8 @@ use Rattle.undo_base.specs.declared.keys.Key.{Key}
 use Rattle.undo_base.specs.declared.keys.User.{User}
 use Rattle.seal_log.specs.declared.fault.ReadFault.{ReadFault}
 use Rattle.smtp_lines.specs.declared.line.SmtpLine.{SmtpLine}
+use Rattle.smtp_lines.specs.Line.{smtp_lines_of}
+use Rattle.smtp_lines.specs.Lines.{rest_of}
 use Rattle.verb_core.specs.declared.ask.SubmitFault.{SubmitFault}
 use Rattle.verb_core.specs.declared.ask.SubmitFault.TheVariants.{Refused as WasRefused, Disk, Closed}
 use Rattle.verb_core.specs.declared.conf.House.{House}
@@ -17,6 +19,7 @@ use Rattle.verb_core.specs.declared.mailbox.Mailbox.{Mailbox}
 use Rattle.verb_core.specs.Boxes.{box_of, mail_at, same_user}
 use Rattle.verb_core.specs.Mailboxes.{entry_of, same_key}
 use Rattle.verb_core.specs.Names.{inbox}
+use Rattle.verb_core.proofs.Validity.{both}
 use Rattle.store_kept.specs.Kept.{Kept, store_of}
 use Rattle.pop_session.specs.declared.answer.Answer.{Answer}
 use Rattle.pop_session.specs.declared.answer.Answer.TheVariants.{InUse, TooMany}
@@ -41,12 +44,15 @@ use Rattle.mail_loop.specs.Hindrance.{Hindrance, Service}
 use Rattle.mail_loop.specs.PopTurn.{in_use, of_pop, pop_session, pop_speech, took_by}
 use Rattle.mail_loop.specs.PopTurn as pop_turn
 use Rattle.mail_loop.specs.Session.{Took, followed, hindered, served, size_in}
-use Rattle.mail_loop.specs.State.{Seats}
+use Rattle.mail_loop.specs.State.{Pop, Seats, State, beside}
+use Rattle.mail_loop.specs.Turns.{fetches}
 use Rattle.privacy_laws.specs.Agreeing.{Agree, is_alike}
-use Rattle.privacy_laws.specs.Clients.{IsFetcherOf, enters_only, is_fetcher_in, is_number_of, line_is_of, passes_only}
+use Rattle.privacy_laws.specs.Clients.{IsFetcherOf, IsSeatOf, all_pass_only, enters_only, is_fetcher_in, is_number_of, line_is_of, lines_are_of, name_in, name_only, passes_only}
 use Rattle.privacy_laws.proofs.Bodies.{own_pass}
 use Rattle.privacy_laws.proofs.Reading.{found_is, row_same}
-use Rattle.privacy_laws.proofs.Services.{Alike, SameService, same_row}
+use Rattle.privacy_laws.proofs.Following.{AlikeHeard, IsSame, heard_by_same, turns_same}
+use Rattle.privacy_laws.proofs.Names.{line_named}
+use Rattle.privacy_laws.proofs.Services.{Alike, SameService, if_both, if_some, same_row}
 use Rattle.privacy_laws.proofs.Steps.{agree_held}
 use Rattle.privacy_laws.proofs.Texts.{held_size, is_held}
 use Rattle.privacy_laws.proofs.Turning.{AsksOwn, OwnSpeech, WantsOwn, same_followed}
@@ -334,15 +340,50 @@ module _ (h : House) (u : User) (k l : Kept) (a : Agree h u k l) (one other : Li
 -- a turn of a POP3 client
 module _ (h : House) (u : User) (k l : Kept) (a : Agree h u k l) (others others' : Seats) (used : list_any (same_user u) (in_use others) ≡ list_any (same_user u) (in_use others')) where
   served_same : (at : ℕ) (d : Dialog) (line : SmtpLine) → IsFetcherOf u d → line_is_of h u d line ≡ true → (x y : Service) → SameService h u k l x y
-      → Alike (IsFetcherOf u) h u (served pop_session x at k others d line) (served pop_session y at l others' d line)
+      → Alike (IsFetcherOf u) (Agree h u) (served pop_session x at k others d line) (served pop_session y at l others' d line)
   served_same at d line mine only x y serves =
       let t : Took Dialog = pop_turn.takes (in_use others) k d line in
       let same : IsTaken u (is_alike k l) t (pop_turn.takes (in_use others') l d line) = takes_same h u k l a (in_use others) (in_use others') used d line mine only in
-      subst (λ (w : Took Dialog). Alike (IsFetcherOf u) h u (followed pop_speech x k t.out t.dialog) (followed pop_speech y l w.out w.dialog)) same.is
+      subst (λ (w : Took Dialog). Alike (IsFetcherOf u) (Agree h u) (followed pop_speech x k t.out t.dialog) (followed pop_speech y l w.out w.dialog)) same.is
       (same_followed pop_speech h u (IsAsking u) (IsFetcherOf u) (pop_own h u) k l a x y serves t.out t.dialog same.mine same.wants)
 
   pub line_same : (i : Hindrance) (at : ℕ) (d : Dialog) (line : SmtpLine) → IsFetcherOf u d → line_is_of h u d line ≡ true
-      → Alike (IsFetcherOf u) h u (hindered pop_session i at k others d line) (hindered pop_session i at l others' d line)
+      → Alike (IsFetcherOf u) (Agree h u) (hindered pop_session i at k others d line) (hindered pop_session i at l others' d line)
   line_same i at d line mine only =
       same_row h u k l a (IsFetcherOf u) i at _ _ (λ desk. served pop_session desk at k others d line) (λ desk. served pop_session desk at l others' d line)
-      (record { same = record { said = refl; dialog = refl; unsealed = refl; counts = refl; kept = a }; mine = mine }) (served_same at d line mine only)
+      (record { same = record { said = refl; dialog = refl; gone = refl; unsealed = refl; counts = refl; kept = a }; mine = mine }) (served_same at d line mine only)
+
+-- ---- more lines
+
+module _ (h : House) (u : User) where
+  -- a POP3 client's dialog, and the lines that come
+  abbrev pub Fetches : Dialog → List SmtpLine → Type 0
+  Fetches d lines = IsFetcherOf u d × (all_pass_only h u (session.given_name d.stage) lines ≡ true) × (name_only h u lines ≡ true)
+
+  -- under no name nobody is logged in
+  nobody : (lines : List SmtpLine) → all_pass_only h u None lines ≡ true
+  nobody [] = refl
+  nobody (line ∷ lines) = both (passes_only h u None (argument_of line) (command_of line)) (all_pass_only h u None lines) refl (nobody lines)
+
+  pub lines_same : (at : ℕ) (others others' : Seats) → list_any (same_user u) (in_use others) ≡ list_any (same_user u) (in_use others') → IsSame Fetches (Agree h u) pop_session at others others'
+  lines_same at others others' used i k l a d line lines (mine, first, rest) =
+      let test : SmtpLine → Bool = λ line. passes_only h u (session.given_name d.stage) (argument_of line) (command_of line) in
+      let turn : Alike (IsFetcherOf u) (Agree h u) (hindered pop_session i at k others d line) (hindered pop_session i at l others' d line) =
+      line_same h u k l a others others' used i at d line mine (first_so (test line) (list_all test lines) first) in
+      let new : all_pass_only h u (name_in (argument_of line) (command_of line)) lines ≡ true = first_so _ (name_only h u lines) rest in
+      let more : name_only h u lines ≡ true = second_so (all_pass_only h u (name_in (argument_of line) (command_of line)) lines) _ rest in
+      let o : Option Dialog = (hindered pop_session i at k others d line).dialog in
+      record {
+        same = turn.same;
+        mine = if_some (λ e. IsFetcherOf u e × (all_pass_only h u (session.given_name e.stage) lines ≡ true)) (λ e. Fetches e lines) (λ e both. (both.0, both.1, more)) o
+            (if_both (IsFetcherOf u) (λ e. all_pass_only h u (session.given_name e.stage) lines ≡ true) o turn.mine
+            (line_named (λ (name : Option (List ℕ)). all_pass_only h u name lines ≡ true) (nobody lines) i at k others d line (second_so (test line) (list_all test lines) first) new));
+      }
+
+  -- the turns of the lines of a stream
+  pub fetched_same : (at conn : ℕ) (hs : List Hindrance) (s t : State) (d : Dialog) (stream : List ℕ) → Agree h u s.kept t.kept → list_any (same_user u) (in_use (beside conn s.seats)) ≡ list_any (same_user u) (in_use (beside conn t.seats))
+      → IsFetcherOf u d → lines_are_of h u d (smtp_lines_of stream) ≡ true → AlikeHeard (IsSeatOf u) (Agree h u) (fetches pop_session hs at s conn d stream) (fetches pop_session hs at t conn d stream)
+  fetched_same at conn hs s t d stream a used mine only =
+      heard_by_same Fetches (Agree h u) pop_session at conn (IsSeatOf u) (Pop (rest_of stream)) (λ e is. is.0) _ _
+      (turns_same Fetches (Agree h u) pop_session at conn (smtp_lines_of stream) hs s t d (lines_same at (beside conn s.seats) (beside conn t.seats) used) a
+      (mine, first_so (all_pass_only h u (session.given_name d.stage) (smtp_lines_of stream)) _ only, second_so (all_pass_only h u (session.given_name d.stage) (smtp_lines_of stream)) _ only))

@@ -1,5 +1,5 @@
 -- What the desk serves where two stores in use agree on a user: the same texts of that user's mail, and the same of what that user asks.
-use Rattle.std.proofs.Common.{◌≡◌, ℕ, true, cond, List, Some, Ok, Err, refl, ap}
+use Rattle.std.proofs.Common.{◌≡◌, ℕ, true, cond, List, Option, None, Some, Ok, Err, refl, ap}
 use Rattle.std.specs.List.{list_all}
 use Rattle.std.specs.Prelude.{IfSome}
 use Rattle.undo_base.specs.declared.keys.User.{User}
@@ -22,14 +22,23 @@ use Rattle.privacy_laws.proofs.Texts.{alike_memory, alike_some, alike_texts}
 pub record SameService (h : House) (u : User) (k l : Kept) (a b : Service) : Type 0 where
   pub texts : (bodies : List Body) → list_all (is_alike k l) bodies ≡ true → a.texts bodies ≡ b.texts bodies
   pub reads : (bodies : List Body) → list_all (is_alike k l) bodies ≡ true → a.reads bodies ≡ b.reads bodies
-  pub asked : (ask : Ask) → is_users ask ≡ true → SameAsked h u (a.asked (Some u) ask) (b.asked (Some u) ask)
+  pub asked : (ask : Ask) → is_users ask ≡ true → SameAsked h u k l (a.asked (Some u) ask) (b.asked (Some u) ask)
   pub at : a.at ≡ b.at
   pub further : a.further ≡ b.further
 
 -- two turns are the same, and of the dialog after them this holds
-pub record Alike {D : Type 0} (P : D → Type 0) (h : House) (u : User) (s t : Turn D) : Type 0 where
-  pub same : SameTurn h u s t
+pub record Alike {D : Type 0} (P : D → Type 0) (R : Kept → Kept → Type 0) (s t : Turn D) : Type 0 where
+  pub same : SameTurn R s t
   pub mine : IfSome s.dialog P
+
+-- what holds of each dialog
+pub if_some : {D : Type 0} (P Q : D → Type 0) → ((d : D) → P d → Q d) → (o : Option D) → IfSome o P → IfSome o Q
+if_some P Q to None mine = tt
+if_some P Q to (Some d) mine = to d mine
+
+pub if_both : {D : Type 0} (P Q : D → Type 0) (o : Option D) → IfSome o P → IfSome o Q → IfSome o (λ d. P d × Q d)
+if_both P Q None one other = tt
+if_both P Q (Some d) one other = (one, other)
 
 module _ (h : House) (u : User) (k l : Kept) (a : Agree h u k l) where
   -- ---- each desk
@@ -83,15 +92,15 @@ module _ (h : House) (u : User) (k l : Kept) (a : Agree h u k l) where
 
   module _ {D : Type 0} (P : D → Type 0) where
     -- the connection closes
-    pub same_lost : Alike P h u (lost k) (lost l)
-    same_lost = record { same = record { said = refl; dialog = refl; unsealed = refl; counts = refl; kept = a }; mine = tt }
+    pub same_lost : Alike P (Agree h u) (lost k) (lost l)
+    same_lost = record { same = record { said = refl; dialog = refl; gone = refl; unsealed = refl; counts = refl; kept = a }; mine = tt }
 
-    silent : (s t : Turn D) → Alike P h u s t → Alike P h u (unanswered s) (unanswered t)
-    silent s t g = record { same = record { said = refl; dialog = refl; unsealed = g.same.unsealed; counts = g.same.counts; kept = g.same.kept }; mine = tt }
+    silent : (s t : Turn D) → Alike P (Agree h u) s t → Alike P (Agree h u) (unanswered s) (unanswered t)
+    silent s t g = record { same = record { said = refl; dialog = refl; gone = g.same.gone; unsealed = g.same.unsealed; counts = g.same.counts; kept = g.same.kept }; mine = tt }
 
     -- a turn that is the same over desks that serve the same is the same, whatever hinders it
-    pub same_row : (i : Hindrance) (at : ℕ) (told told' : Turn D) (turn turn' : Service → Turn D) → Alike P h u told told' → ((x y : Service) → SameService h u k l x y → Alike P h u (turn x) (turn' y))
-        → Alike P h u (row i at k told turn).follows (row i at l told' turn').follows
+    pub same_row : (i : Hindrance) (at : ℕ) (told told' : Turn D) (turn turn' : Service → Turn D) → Alike P (Agree h u) told told' → ((x y : Service) → SameService h u k l x y → Alike P (Agree h u) (turn x) (turn' y))
+        → Alike P (Agree h u) (row i at k told turn).follows (row i at l told' turn').follows
     same_row Clear at told told' turn turn' t f = f _ _ (plain at)
     same_row Refused at told told' turn turn' t f = t
     same_row Textless at told told' turn turn' t f = f _ _ (textless _ _ (plain at))

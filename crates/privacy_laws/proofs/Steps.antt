@@ -22,7 +22,7 @@ use Rattle.mail_desk.specs.Desk.{IsDesk}
 use Rattle.mail_desk.proofs.Going.{desk_goes_on}
 use Rattle.privacy_laws.specs.Agreeing.{Agree, is_alike}
 use Rattle.privacy_laws.proofs.Bodies.{all_after, bodies_both, body_of, rows_pass}
-use Rattle.privacy_laws.proofs.Texts.{alike_after, alike_now, is_held}
+use Rattle.privacy_laws.proofs.Texts.{alike_after, alike_now, is_held, own_plain}
 
 -- a user's stamps after an item are those of the user's mailboxes
 pub own_stamps : (u : User) (number : ℕ) (boxes : Boxes) (stamps : List (BoxId × ℕ)) → rows_of u (stamps_after number boxes stamps) ≡ stamps_after number (rows_of u boxes) (rows_of u stamps)
@@ -62,7 +62,7 @@ module _ (h : House) (u : User) (k l : Kept) (a : Agree h u k l) (item : Item) (
       (step_agree k.store l.store item own a.one.valid.rising a.other.valid.rising agrees).1
 
   stays : (body : Body) → is_alike k l body ≡ true → is_alike (performed k item) (performed l item) body ≡ true
-  stays = alike_after k l item a.one.base a.other.base a.one.below a.other.below own number a.next
+  stays = alike_after k l item a.one.base a.other.base a.one.below a.other.below (own_plain item.deed own) number a.next
 
   texts_after : all_bodies (is_alike (performed k item) (performed l item)) (rows_of u (step k.store item).0.boxes) ≡ true
   texts_after =
@@ -71,7 +71,7 @@ module _ (h : House) (u : User) (k l : Kept) (a : Agree h u k l) (item : Item) (
       subst (λ (v : User). all_bodies test (rows_of v (step k.store item).0.boxes) ≡ true) acts
       (all_after test k.store item a.one.valid formed_in own
       (subst (λ (v : User). all_bodies test (rows_of v k.store.boxes) ≡ true) (sym acts) before)
-      (λ some. alike_now k l item a.one.base a.other.base a.one.below a.other.below own number a.next (body_of item) refl))
+      (λ some. alike_now k l item a.one.base a.other.base a.one.below a.other.below (own_plain item.deed own) number a.next (body_of item) refl))
 
   pub agree_after : Agree h u (performed k item) (performed l item)
   agree_after = record {

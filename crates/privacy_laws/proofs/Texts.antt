@@ -134,26 +134,26 @@ text_alone item body = option_or (text_found (find (brings body) (item ∷ [])))
 abbrev recorded_alone : Item → Body → Bool
 recorded_alone item body = is_some (option_map_or (λ (i : Item). text_in i.deed) (find (brings body) (item ∷ [])) None)
 
-own_plain : (d : Deed) → is_own d ≡ true → is_notice d ≡ false
+pub own_plain : (d : Deed) → is_own d ≡ true → is_notice d ≡ false
 unfolding is_notice
 own_plain (Notice v text) own = absurd (true≢false (sym own))
 own_plain (Deliver from to text) own = refl
 own_plain (Acts act) own = refl
 own_plain _ own = refl
 
-recorded_own : (first : ℕ) (i : Item) (b : Bool) → is_own i.deed ≡ true
+recorded_plain : (first : ℕ) (i : Item) (b : Bool) → is_notice i.deed ≡ false
     → is_some (option_map_or (recorded_in first) (cond b (Some i) None) None) ≡ is_some (option_map_or (λ (j : Item). text_in j.deed) (cond b (Some i) None) None)
-recorded_own first i true own = ap (λ (n : Bool). is_some (cond (n && nat_le first i.number) None (text_in i.deed))) (own_plain i.deed own)
-recorded_own first i false own = refl
+recorded_plain first i true plain = ap (λ (n : Bool). is_some (cond (n && nat_le first i.number) None (text_in i.deed))) plain
+recorded_plain first i false plain = refl
 
-module _ (kept : Kept) (item : Item) (body : Body) (base : HasBase kept) (below : AllByRecursion (λ (i : Item). i.number < kept.next) kept.timeline) (own : is_own item.deed ≡ true) (is : body.origin ≡ kept.next) where
+module _ (kept : Kept) (item : Item) (body : Body) (base : HasBase kept) (below : AllByRecursion (λ (i : Item). i.number < kept.next) kept.timeline) (plain : is_notice item.deed ≡ false) (is : body.origin ≡ kept.next) where
   text_now : text_kept (performed kept item) body ≡ text_alone item body
   text_now = λ j. option_or (text_found (found_now kept.timeline item body (apart_of body kept.next kept.timeline is below) j)) (before_none kept body base is j)
 
   recorded_now : is_recorded (performed kept item) (performed kept item).timeline body ≡ recorded_alone item body
   recorded_now =
       (λ j. is_some (option_map_or (recorded_in kept.first) (found_now kept.timeline item body (apart_of body kept.next kept.timeline is below) j) (before_none kept body base is j)))
-      ∙ recorded_own kept.first item (brings body item) own
+      ∙ recorded_plain kept.first item (brings body item) plain
 
 -- of a body that neither item brings nothing changes
 pub alike_apart : (k l : Kept) (i j : Item) (body : Body) → (i.number == body.origin) ≡ false → (j.number == body.origin) ≡ false → is_alike (performed k i) (performed l j) body ≡ is_alike k l body
@@ -171,13 +171,13 @@ alike_itself kept body = ap₂ (λ (a b : Bool). a && b) (same_text-refl (text_k
 
 -- a body that is alike stays so, and that of the item is alike
 module _ (k l : Kept) (item : Item) (one : HasBase k) (other : HasBase l) (below : AllByRecursion (λ (i : Item). i.number < k.next) k.timeline) (below' : AllByRecursion (λ (i : Item). i.number < l.next) l.timeline)
-    (own : is_own item.deed ≡ true) (number : item.number ≡ k.next) (next : k.next ≡ l.next) where
+    (plain : is_notice item.deed ≡ false) (number : item.number ≡ k.next) (next : k.next ≡ l.next) where
   pub alike_now : (body : Body) → body.origin ≡ item.number → is_alike (performed k item) (performed l item) body ≡ true
   alike_now body is =
       let here : body.origin ≡ k.next = is ∙ number in
       let there : body.origin ≡ l.next = here ∙ next in
-      (λ j. is_same_text (text_now k item body one below own here j) (text_now l item body other below' own there j)
-      && is_same (recorded_now k item body one below own here j) (recorded_now l item body other below' own there j))
+      (λ j. is_same_text (text_now k item body one below plain here j) (text_now l item body other below' plain there j)
+      && is_same (recorded_now k item body one below plain here j) (recorded_now l item body other below' plain there j))
       ∙ ap₂ (λ (a b : Bool). a && b) (same_text-refl (text_alone item body)) (same-refl (recorded_alone item body))
 
   pub alike_after : (body : Body) → is_alike k l body ≡ true → is_alike (performed k item) (performed l item) body ≡ true

@@ -1,17 +1,20 @@
 -- Whose connection it is: nobody is logged in on it but one user, and none of its commands logs in another.
-use Rattle.std.specs.Prelude.{◌≡◌, ◌⊎◌, ℕ, ◌==◌, Bool, true, false, List, Option, Some, None, Ok, Err, unwrap_or, option_map}
-use Rattle.std.specs.List.{list_all}
+use Rattle.std.specs.Prelude.{◌≡◌, ◌⊎◌, ℕ, ◌==◌, ◌&&◌, Bool, true, false, List, [], ◌∷◌, ◌++◌, Option, Some, None, Ok, Err, unwrap_or, option_map}
+use Rattle.std.specs.List.{list_all, list_any}
 use Rattle.undo_base.specs.declared.keys.User.{User}
 use Rattle.verb_core.specs.declared.conf.House.{House}
+use Rattle.verb_core.specs.Boxes.{same_user}
 use Rattle.imap_lines.specs.declared.command.ImapWhat.{ImapWhat}
 use Rattle.imap_lines.specs.declared.command.ImapWhat.TheVariants.{Login}
 use Rattle.imap_lines.specs.Command.{Reading, command_of}
+use Rattle.imap_stream.specs.Commands as imap_stream
 use Rattle.imap_stream.specs.declared.next.Next.{Next}
 use Rattle.imap_stream.specs.declared.next.Next.TheVariants.{Command}
 use Rattle.imap_view.specs.Names.{account_of}
 use Rattle.imap_session.specs.declared.dialog.Dialog.{Dialog}
 use Rattle.smtp_lines.specs.declared.line.SmtpLine.{SmtpLine}
-use Rattle.pop_session.specs.declared.command.Command.TheVariants.{Pass}
+use Rattle.smtp_lines.specs.Line.{smtp_lines_of}
+use Rattle.pop_session.specs.declared.command.Command.TheVariants.{Pass, User as Name}
 use Rattle.pop_session.specs.declared.dialog.Awaits.{Awaits as PopAwaits}
 use Rattle.pop_session.specs.declared.dialog.Awaits.TheVariants.{Outcome}
 use Rattle.pop_session.specs.declared.dialog.Dialog.{Dialog as PopDialog}
@@ -22,6 +25,8 @@ use Rattle.pop_session.specs.Command.{Reading as PopReading, argument_of}
 use Rattle.pop_session.specs.Command as pop_command
 use Rattle.pop_session.specs.Dialog as pop
 use Rattle.pop_session.specs.Dialog.{awaits_login}
+use Rattle.mail_loop.specs.PopTurn.{in_use}
+use Rattle.mail_loop.specs.State.{Seat, Seats, Smtp, Imap, Http, Pop, beside}
 
 -- the number of a user who logs in is this one's
 abbrev pub is_number_of : User → Option ℕ → Bool
@@ -71,3 +76,44 @@ passes_only house u _ argument _ = true
 
 abbrev pub line_is_of : House → User → PopDialog → SmtpLine → Bool
 line_is_of house u d line = passes_only house u (pop.given_name d.stage) (argument_of line) (pop_command.command_of line)
+
+-- the name that a line gives, if it is a USER
+abbrev pub name_in : List ℕ → PopReading → Option (List ℕ)
+name_in argument (Ok Name) = Some argument
+name_in argument _ = None
+
+-- where one of these lines logs in somebody under a name, it is this user
+abbrev pub all_pass_only : House → User → Option (List ℕ) → List SmtpLine → Bool
+all_pass_only house u name lines = list_all (λ line. passes_only house u name (argument_of line) (pop_command.command_of line)) lines
+
+-- the same under each name that one of the lines gives, of those behind it
+abbrev pub name_only : House → User → List SmtpLine → Bool
+name_only house u [] = true
+name_only house u (line ∷ lines) = all_pass_only house u (name_in (argument_of line) (pop_command.command_of line)) lines && name_only house u lines
+
+-- no line logs in another user, under the name that was given before all or under one that these lines give before it
+abbrev pub lines_are_of : House → User → PopDialog → List SmtpLine → Bool
+lines_are_of house u d lines = all_pass_only house u (pop.given_name d.stage) lines && name_only house u lines
+
+-- ---- a connection
+
+-- whose connection it is, by login: that of an IMAP or a POP3 client. An SMTP client logs nobody in, and a console is the operator's
+abbrev pub IsSeatOf : User → Seat → Type 0
+IsSeatOf u (Smtp unserved d) = ⊥
+IsSeatOf u (Imap stream d) = IsReaderOf u d
+IsSeatOf u (Http came) = ⊥
+IsSeatOf u (Pop unserved d) = IsFetcherOf u d
+
+-- none of the bytes that come on it logs in another user
+abbrev pub bytes_are_of : House → User → Seat → List ℕ → Bool
+bytes_are_of house u (Smtp unserved d) bytes = true
+bytes_are_of house u (Imap stream d) bytes = are_only_of house u (imap_stream.heard stream bytes).said
+bytes_are_of house u (Http came) bytes = true
+bytes_are_of house u (Pop unserved d) bytes = lines_are_of house u d (smtp_lines_of (unserved ++ bytes))
+
+-- in both states or in none another connection has the user's maildrop in use, which a POP3 client is told of
+abbrev pub SameUse : User → ℕ → Seat → Seats → Seats → Type 0
+SameUse u conn (Smtp unserved d) one other = Unit {0}
+SameUse u conn (Imap stream d) one other = Unit {0}
+SameUse u conn (Http came) one other = Unit {0}
+SameUse u conn (Pop unserved d) one other = list_any (same_user u) (in_use (beside conn one)) ≡ list_any (same_user u) (in_use (beside conn other))

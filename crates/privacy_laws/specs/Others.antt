@@ -1,7 +1,10 @@
 -- What other users do.
-use Rattle.std.specs.Prelude.{◌≡◌, ◌⊎◌, ◌<◌, true, false, List, [], ◌∷◌}
+use Rattle.std.specs.Prelude.{◌≡◌, ◌⊎◌, ◌<◌, Bool, true, false, filter, List, [], ◌∷◌}
 use Rattle.undo_base.specs.declared.keys.User.{User}
 use Rattle.verb_core.specs.declared.conf.House.{House}
+use Rattle.verb_core.specs.declared.item.Aim.{Aim}
+use Rattle.verb_core.specs.declared.item.Deed.{Deed}
+use Rattle.verb_core.specs.declared.item.Deed.TheVariants.{Deliver}
 use Rattle.verb_core.specs.declared.item.Item.{Item}
 use Rattle.verb_core.specs.declared.mailbox.BoxId.{BoxId}
 use Rattle.verb_core.specs.Aims.{sought_by}
@@ -25,14 +28,27 @@ pub record CanFollow (house : House) (kept : Kept) (i : Item) : Type 0 where
 abbrev pub IsOwnItem : User → Item → Item → Type 0
 IsOwnItem u i j = (i ≡ j) × (is_own i.deed ≡ true) × (actor i.by i.deed ≡ u)
 
--- Two runs of items are alike for a user: each item of the user's own stands in both, and beside each that touches none of the user's mailboxes
--- stands another such.
+-- a mail that came by SMTP
+abbrev pub is_mail : Deed → Bool
+is_mail (Deliver from to text) = true
+is_mail _ = false
+
+-- to which of a user's mailboxes an item brings mail
+abbrev pub aims_of : User → Kept → Item → List Aim
+aims_of u kept i = filter (λ (a : Aim). same_user u a.user) (sought_by (store_of kept) i).aims
+
+-- the same mail in both, which comes to the same of the user's mailboxes: so aliases and filters mean the same for the user
+abbrev pub IsSameMail : User → Kept → Kept → Item → Item → Type 0
+IsSameMail u k l i j = (i ≡ j) × (is_mail i.deed ≡ true) × (aims_of u k i ≡ aims_of u l i)
+
+-- Two runs of items are alike for a user: each item of the user's own stands in both, and each mail that comes to the user; and beside each item that
+-- touches none of the user's mailboxes stands another such.
 abbrev pub AreAlike : House → User → Kept → Kept → List Item → List Item → Type 0
 AreAlike house u k l [] [] = Unit {0}
 AreAlike house u k l [] (j ∷ js) = ⊥
 AreAlike house u k l (i ∷ is) [] = ⊥
 AreAlike house u k l (i ∷ is) (j ∷ js) =
-    CanFollow house k i × CanFollow house l j × (IsOwnItem u i j ⊎ (Spares u (store_of k) i × Spares u (store_of l) j)) × AreAlike house u (performed k i) (performed l j) is js
+    CanFollow house k i × CanFollow house l j × (IsOwnItem u i j ⊎ IsSameMail u k l i j ⊎ (Spares u (store_of k) i × Spares u (store_of l) j)) × AreAlike house u (performed k i) (performed l j) is js
 
 -- items are performed, one after the other
 abbrev pub all_performed : Kept → List Item → Kept
