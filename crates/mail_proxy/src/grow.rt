@@ -8,6 +8,7 @@ ghost use Rattle.mail_proxy.specs.Plans.{output_of};
 use crate::check::{counts_text, push_count};
 use crate::counting_link::CountingLink;
 use crate::generating::generate;
+use crate::init::unmade;
 use crate::plan::{LastLine, Plan, only_line};
 use crate::play::playing_desk;
 use crate::serving::{MOST_EVENTS, outcome_over, plan_of};
@@ -48,7 +49,7 @@ fn grow_events<R: Threads + Sync, G: Gate>(
             let mut desk = desk;
             serve_generated(rt, alloc, &mut desk, rounds, events, gate)
         }
-        Err(NoMemory) => only_line(alloc, 8, LastLine::NoMemory),
+        Err(fault) => unmade(alloc, fault),
     }
 }
 

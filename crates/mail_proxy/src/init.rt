@@ -48,7 +48,7 @@ fn format_disk<D: Disk + Drop>(alloc: Global, disk: D, house: House, conf: Conf)
 }
 
 /// What is answered where the disk was not formatted.
-fn unmade(alloc: Global, fault: MakeFault) -> Plan
+pub fn unmade(alloc: Global, fault: MakeFault) -> Plan
     ensures status { result.status ≡ made_status (Err fault) }
     ensures output { output_of result ≡ made_line (Err fault) }
 {

@@ -1,5 +1,5 @@
 //! What is to be answered and written, and the writing of it.
-ghost use Rattle.std.specs.Prelude.{◌≡◌, ◌≢◌, ℕ, [], IfOk};
+ghost use Rattle.std.specs.Prelude.{◌≡◌, [], IfOk};
 ghost use Rattle.base_cut.specs.Writing.{WritesAll, Wrote};
 ghost use Rattle.mail_proxy.specs.Lines.{bad_line, damaged, false_record_at, is_nothing, line_text, no_memory};
 ghost use Rattle.mail_proxy.specs.Shows.{Shows, first_fault};
@@ -62,40 +62,31 @@ pub fn unread(alloc: Global, refused: ReadRefused) -> Plan
     }
 }
 
-fn fixed_line(last: LastLine) -> &'static [u8]
-    requires line { (n : ℕ) → last ≢ LastLine.BadLine n }
-    requires place { (n : ℕ) → last ≢ LastLine.Damaged n }
-    requires false_place { (n : ℕ) → last ≢ LastLine.FalseRecord n }
-    ensures { result.now ≡ line_text last }
-{
-    match last {
-        LastLine::Nothing => b"",
-        LastLine::Usage =>
-            b"undomail: usage: undomail init STORE, serve STORE SMTP IMAP HTTP [POP], script STORE, play, grow ROUNDS, check STORE, cut STORE POINT, audit STORE\n",
-        LastLine::TooLong => b"undomail: text too long\n",
-        LastLine::BadConfiguration => b"undomail: bad configuration\n",
-        LastLine::BadLine(_) => unreachable!(),
-        LastLine::NotEmpty => b"undomail: store is not empty\n",
-        LastLine::NotStore => b"undomail: not a store\n",
-        LastLine::LinkFault => b"undomail: link fault\n",
-        LastLine::DiskFault => b"undomail: disk fault\n",
-        LastLine::ReadFault => b"undomail: read fault\n",
-        LastLine::TooMany => b"undomail: too many events\n",
-        LastLine::NoMemory => b"undomail: no memory\n",
-        LastLine::Damaged(_) => unreachable!(),
-        LastLine::NoPoint => b"undomail: no such point\n",
-        LastLine::FalseRecord(_) => unreachable!(),
-    }
-}
+/// What is said where no memory is found.
+const NO_MEMORY: &[u8] = b"undomail: no memory\n";
 
 fn make_line(alloc: Global, last: LastLine) -> Result<Text, NoMemory>
     ensures { IfOk result (λ line. line ≡ line_text last) }
 {
     match last {
+        LastLine::Nothing => Ok(Text::new(alloc)),
+        LastLine::Usage => Text::of(
+            alloc,
+            b"undomail: usage: undomail init STORE, serve STORE SMTP IMAP HTTP [POP], script STORE, play, grow ROUNDS, check STORE, cut STORE POINT, audit STORE\n",
+        ),
+        LastLine::TooLong => Text::of(alloc, b"undomail: text too long\n"),
+        LastLine::BadConfiguration => Text::of(alloc, b"undomail: bad configuration\n"),
         LastLine::BadLine(line) => make_bad_line(alloc, line),
+        LastLine::NotEmpty => Text::of(alloc, b"undomail: store is not empty\n"),
+        LastLine::NotStore => Text::of(alloc, b"undomail: not a store\n"),
+        LastLine::LinkFault => Text::of(alloc, b"undomail: link fault\n"),
+        LastLine::DiskFault => Text::of(alloc, b"undomail: disk fault\n"),
+        LastLine::ReadFault => Text::of(alloc, b"undomail: read fault\n"),
+        LastLine::TooMany => Text::of(alloc, b"undomail: too many events\n"),
+        LastLine::NoMemory => Text::of(alloc, NO_MEMORY),
         LastLine::Damaged(place) => make_damaged(alloc, place),
+        LastLine::NoPoint => Text::of(alloc, b"undomail: no such point\n"),
         LastLine::FalseRecord(place) => make_false_record(alloc, place),
-        _ => Text::of(alloc, fixed_line(last)),
     }
 }
 
@@ -169,6 +160,6 @@ pub fn without_memory<W: Sink>(out: &mut W) -> u8
     ensures status { result ≡ 8 }
     ensures line { Wrote (W.told out.old) (W.told out.new) no_memory }
 {
-    let _ = write_all(out, fixed_line(LastLine::NoMemory));
+    let _ = write_all(out, NO_MEMORY);
     8
 }
