@@ -237,6 +237,10 @@ module _ {D : Type 0} (speech : Speech D) where
   none_after_last kept d e outcome ask old new last (is, same) =
       true≢false (sym (last (store_of kept) kept.stamps outcome) ∙ ap (λ (t : Took D). is_answer t.out) is)
 
+  pub asks_none : (kept : Kept) (d e : D) (outcome : Result Item SubmitFault) (old new : Reply) (further : Option Ask) → IsLast speech d → SettlesOrAsks speech outcome kept d old e new further → further ≡ None
+  asks_none kept d e outcome old new None last settles = refl
+  asks_none kept d e outcome old new (Some ask) last settles = absurd (none_after_last kept d e outcome ask old new last settles)
+
   pub settles_if_none : (kept : Kept) (d e : D) (outcome : Result Item SubmitFault) (old new : Reply) (further : Option Ask) → further ≡ None → SettlesOrAsks speech outcome kept d old e new further
       → Settles speech outcome kept d old e new
   settles_if_none kept d e outcome old new further is settles = subst (λ (o : Option Ask). SettlesOrAsks speech outcome kept d old e new o) is settles

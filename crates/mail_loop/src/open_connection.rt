@@ -61,6 +61,13 @@ enum Kind {
     },
 }
 
+/// The connection that an event is about, and the event's moment.
+#[derive(Clone, Copy, Debug)]
+pub struct Occasion {
+    pub conn: u32,
+    pub at: u64,
+}
+
 /// An open connection.
 #[derive(Drop)]
 pub struct Connection {
@@ -328,22 +335,22 @@ pub fn hear<R: Threads + Sync, D: Disk + Drop, G: Gate>(
     alloc: Global,
     desk: &mut Desk<D>,
     connection: &mut Connection,
-    conn: u32,
-    at: u64,
+    occasion: Occasion,
     gate: &G,
     in_use: &Result<Users, NoMemory>,
     bytes: &[u8],
 ) -> Turned
-    requires moment { at ≤ 253402300799 }
+    requires moment { occasion.at ≤ 253402300799 }
     requires sealed { desk.old.closed ≡ false }
     requires home { IsHome desk.old.kept.house connection.old }
     ensures home { IsHome desk.new.kept.house connection.new }
     ensures house { desk.new.kept.house ≡ desk.old.kept.house }
-    ensures heard { (seats : Seats) → seat_at conn seats ≡ Some connection.old → AreInUse conn seats connection.old in_use.now → (no_memory : Bool) × (hs : List Hindrance) × (stage : Stage) × (failed : List JournalRecord) × (counts : TurnCounts) ×
+    ensures heard { (seats : Seats) → seat_at occasion.conn seats ≡ Some connection.old → AreInUse occasion.conn seats connection.old in_use.now → (no_memory : Bool) × (hs : List Hindrance) × (stage : Stage) × (failed : List JournalRecord) × (counts : TurnCounts) ×
         HaveSealed D.told desk.old desk.new failed counts × (readings : List Reading) × AreSaid readings ×
-        (hears no_memory hs stage at (record { kept = desk.old.kept; seats = seats }) conn connection.old bytes.now
-        ≡ answered_alone conn result desk.new.kept failed counts readings connection.new seats) }
+        (hears no_memory hs stage occasion.at (record { kept = desk.old.kept; seats = seats }) occasion.conn connection.old bytes.now
+        ≡ answered_alone occasion.conn result desk.new.kept failed counts readings connection.new seats) }
 {
+    let Occasion { conn, at } = occasion;
     match &mut connection.kind {
         Kind::Smtp { unserved, dialog } => {
             hear_smtp(alloc, desk, unserved, dialog, conn, at, bytes)

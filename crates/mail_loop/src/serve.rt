@@ -22,7 +22,7 @@ ghost use Rattle.mail_loop.specs.Acknowledged.{GoesThrough, WentThrough};
 
 use crate::letters::{Letter, alone, letters_of, room_for_letters};
 use crate::maildrops::users_for;
-use crate::open_connection::{Connection, hear};
+use crate::open_connection::{Connection, Occasion, hear};
 use crate::reply::{greeting_to, ungreeted};
 use crate::roles::greeting;
 use std::alloc::Global;
@@ -253,7 +253,10 @@ fn hear_at<R: Threads + Sync, D: Disk + Drop, G: Gate>(
     let in_use = users_for(alloc, connections, conn);
     let turned = match connections.get_mut(&conn) {
         None => return Ok(nothing(alloc)),
-        Some(connection) => hear(rt, alloc, desk, connection, conn, at, gate, &in_use, bytes),
+        Some(connection) => {
+            let occasion = Occasion { conn, at };
+            hear(rt, alloc, desk, connection, occasion, gate, &in_use, bytes)
+        }
     };
     keep_if(connections, conn, !turned.closes);
     let stops = turned.stops;

@@ -1,9 +1,10 @@
-use Rattle.std.proofs.Common.{refl, ap}
+use Rattle.std.proofs.Common.{refl, ap, subst}
 use Rattle.mail_loop.specs.declared.out.Out.{Out}
 use Rattle.mail_loop.specs.declared.out.Out.TheVariants.{Submit}
 use Rattle.mail_loop.specs.Asked.{HaveSealed}
 use Rattle.mail_loop.specs.Turn.{Turn}
 use Rattle.mail_loop.specs.Session.{submits}
+use Rattle.mail_loop.specs.Took.{IsAwaitedLast}
 use Rattle.mail_loop.specs.Hindrance.{Hindrance, under, service}
 use Rattle.mail_loop.proofs.Dialogs.{bye_turn, submits_turn, said_turn}
 use Rattle.mail_loop.proofs.Sealed.{unsealed}
@@ -39,3 +40,10 @@ returns-in-Submit-clause-turn g c =
     let desk = c.args.desk.now in
     let new = c.submit.new in
     submits_turn g.S.Speaks.speech (HaveSealed g.D.Disk.told desk new.desk) c.args.at desk.kept new.desk.kept c.args.out (Submit c.in-Submit.ask) c.args.session.now new.session c.args.reply.now new.reply c.in-Submit.is c.submit.ensures.turn
+
+-- it wants no texts again
+pub returns-in-Read-clause-free : goal.returns-in-Read-clause-free
+returns-in-Read-clause-free g c = absurd (subst (λ (o : Out). IsAwaitedLast g.S.Speaks.speech o c.args.session.now) c.in-Read.is c.requires.awaited)
+
+pub returns-in-Read-clause-turn : goal.returns-in-Read-clause-turn
+returns-in-Read-clause-turn g c = absurd (subst (λ (o : Out). IsAwaitedLast g.S.Speaks.speech o c.args.session.now) c.in-Read.is c.requires.awaited)
