@@ -129,14 +129,14 @@ module _ {D : Type 0} (told : D → DiskTold) where
   is_cut written old mid point given payloads timeline still holds (place, is, exact) spelled are =
       let here = cut_before (desk_told told old) (desk_told told mid) given payloads (told_stays old mid still holds) are in
       let same : HoldsTexts told old → payloads ≡ payloads_of (cut_records old.kept place) =
-      λ stored. cut_exact (desk_told told old) given payloads here stored ∙ cuts_are_records old.kept place given timeline (exact stored) in
+      λ stored. cut_exact (desk_told told old) given payloads here stored ∙ cuts_are_records old.kept place given timeline (exact (inl stored)) in
       record {
         place = place;
         place_is = is;
         parts = given;
         are = here;
         exact = same;
-        can = λ stored framed. written old.kept place given (exact stored) spelled (subst (λ (l : List (List ℕ)). AllByRecursion IsPayload l) (same stored) framed);
+        can = λ stored framed. written old.kept place given (exact (inl stored)) spelled (subst (λ (l : List (List ℕ)). AllByRecursion IsPayload l) (same stored) framed);
       }
 
   -- what was written of it
@@ -154,7 +154,7 @@ module _ {D : Type 0} (told : D → DiskTold) where
       → (planned : ℕ) × (text : List ℕ) × CutsAt told (HoldsTexts told old) point old new planned text shown out out' × Shows planned text shown out out'
   uncut old new point (Point given) status output shown out out' (none, is, same) (eleven, line) shows = (status, output, inl (same, inl (none, eleven, line)), shows)
   uncut old new point (Numbers next) status output shown out out' why tells shows = absurd why
-  uncut old new point DiskFault status output shown out out' (there, failed) tells shows = (status, output, inr (inl (failed, tells)), shows)
+  uncut old new point DiskFault status output shown out out' (there, failed) tells shows = (status, output, inr (inl (there, failed, tells)), shows)
   uncut old new point NoMemoryFault status output shown out out' (there, same) tells shows = (status, output, inl (same, inr (inr tells)), shows)
   uncut old new point Closed status output shown out out' why tells shows = absurd why
 

@@ -270,7 +270,7 @@ module _ (truth : TruthIsSettled) {D : Type 0} (told : D → DiskTold) (disk : D
         by_cut is (inl (reads, inl (none, eleven, line))) = inl (stays 11 eleven (λ z. omega arith) ∙ sym (at_point None desk.kept point none is))
         by_cut is (inl (reads, inr (inl (payloads, of, nought, line, writes)))) = well nought (at_point (Some of.place) desk.kept point of.place_is is)
         by_cut is (inl (reads, inr (inr (eight, line)))) = out_of_memory eight
-        by_cut is (inr (inl (failed, (five, line)))) = by_fault five
+        by_cut is (inr (inl (some, failed, (five, line)))) = by_fault five
         by_cut is (inr (inr (rose, (payloads, of, five, short, took)))) = by_fault five
 
     due_audit : Audits told disk end → IsDueStore (Some Audit) (told disk) k → (s ≡ k) ⊎ IsHindered s

@@ -1,5 +1,5 @@
 -- What the command `cut` writes.
-use Rattle.std.specs.Prelude.{◌≡◌, ◌⊎◌, ◌<◌, ℕ, List, ◌++◌, length, None, Some}
+use Rattle.std.specs.Prelude.{◌≡◌, ◌⊎◌, ◌<◌, ℕ, List, ◌++◌, length, None, Some, IsTrue}
 use Rattle.std.specs.List.{AllByRecursion}
 use Rattle.undo_outside.specs.Calls.{Rose, SinkTold, WantsToWrite}
 use Rattle.undo_outside.specs.Disk.{DiskTold, ReadFailed}
@@ -17,6 +17,7 @@ use Rattle.base_cut.specs.Writing.{Took}
 use Rattle.time_desk.specs.declared.fault.CycleFault.{CycleFault}
 use Rattle.time_desk.specs.declared.fault.CycleFault.TheVariants.{Point, Numbers, Disk, NoMemory, Closed}
 use Rattle.time_desk.specs.Lending.{desk_told}
+use Rattle.time_desk.specs.Replaying.{cut_reads}
 use Rattle.cut_laws.specs.Cuts.{CanBeWritten}
 use Rattle.mail_proxy.specs.Check.{IsOnlyRead}
 use Rattle.mail_proxy.specs.Lines.{disk_fault, no_memory, no_such_point}
@@ -103,11 +104,13 @@ module _ {D : Type 0} (told : D → DiskTold) where
   abbrev pub ReadRose : Lasting D → Lasting D → Type 0
   ReadRose first last = Rose (told first.disk).failed_reads (told last.disk).failed_reads
 
-  -- how a cut of a desk ended, with this status: no read failed; or one did, and the disk counted it
+  -- How a cut of a desk ended, with this status: no read failed; or one did, and the disk counted it. Before a byte was written that was
+  -- one of a cut for which something is to be read.
   abbrev pub CutsAt : Type 0 → ℕ → Lasting D → Lasting D → ℕ → List ℕ → ℕ → SinkTold → SinkTold → Type 0
   CutsAt stored point first last status output shown out out' =
       (ReadsWell told first last × (HasNoPoint first point status output ⊎ IsCutWhole stored first point status output shown out out' ⊎ TellsWant status output))
-      ⊎ ((ReadFailed (told first.disk) (told last.disk) × TellsFault status output) ⊎ (ReadRose first last × IsCutShort stored first point status output out out'))
+      ⊎ ((IsTrue (cut_reads first.kept point) × ReadFailed (told first.disk) (told last.disk) × TellsFault status output)
+      ⊎ (ReadRose first last × IsCutShort stored first point status output out out'))
 
   -- how its writing ended: what is written is the cut or a first part of it
   abbrev pub WritesParts : Lasting D → Lasting D → List (List ℕ) → ℕ → SinkTold → SinkTold → Type 0
