@@ -18,7 +18,7 @@ import datetime, glob, os, re, sys
 TOP = os.path.dirname(os.path.dirname(os.path.abspath(__file__)))
 PAGE, CALL, NAME = 'docs/THEOREM.md', 'crates/mail_proxy/src/top.rt', 'run'
 OUTSIDE = {'source': 'Source', 'link': 'Link', 'disk': 'Disk', 'sink': 'Sink'}
-COUNTED = re.compile(r'On (\d+ \w+ \d{4}) ([\d,]+) definitions stand behind `run`')
+COUNTED = re.compile(r'On (\d+ \w+ \d{4}) ([\d,]+) definitions stand behind `run`, ([\d,]+) of them named by one other alone')
 WORD = r"[A-Za-z_][A-Za-z0-9_']*"
 FORMS = {'.antt': re.compile(rf'(?:\s*(?:abbrev|unfoldable) pub |\s*pub (?:record|data) |pub )({WORD})(?=[ :])'),
          '.rt': re.compile(rf'\s*pub (?:fn|enum|struct|trait|type|const) ({WORD})')}
@@ -136,7 +136,7 @@ def bound_in(body, name):
     return {word for group in found for word in group.split() if not word[0].isupper()}
 
 class Closure:
-    def __init__(self): self.modules, self.found, self.types, self.code = {}, set(), set(), {}
+    def __init__(self): self.modules, self.found, self.types, self.code, self.users, self.at = {}, set(), set(), {}, {}, None
 
     def module(self, path):
         if path not in self.modules: self.modules[path] = Module(path)
@@ -152,9 +152,12 @@ class Closure:
         if owner is None:
             if name in its.uses: self.reach(*its.uses[name])
             return
+        if self.at != (path, owner): self.users.setdefault((path, owner), set()).add(self.at)
         if (path, owner) in self.found: return
         self.found.add((path, owner))
+        before, self.at = self.at, (path, owner)
         self.words(its, its.own[owner], bound_in(its.own[owner], owner))
+        self.at = before
 
     def words(self, its, text, bound=()):
         """All names in a text that stands in a module or beside its `use` lines."""
@@ -210,15 +213,16 @@ def behind():
     closure = Closure()
     closure.words(Contracts(CALL), clauses_of(remarks_off(definitions(CALL)[NAME])))
     of_call, types = set(closure.found), len(closure.types)
+    steps = sum(len(closure.users[one]) == 1 for one in of_call)
     for file, trait in OUTSIDE.items():
         path = f'crates/undo_outside/src/{file}.rt'
         closure.words(Contracts(path), clauses_of(remarks_off(definitions(path)[trait])))
-    return of_call, closure.found - of_call, types, closure
+    return of_call, closure.found - of_call, types, steps, closure
 
 def main():
     if sys.argv[1:] not in ([], ['--write']): sys.exit(__doc__)
     page = text_of(PAGE)
-    of_call, of_outside, types, closure = behind()
+    of_call, of_outside, types, steps, closure = behind()
     if sys.argv[1:]:
         lines = page.split('\n')
         for begin, end, _, now in reversed(stale(page)):
@@ -226,7 +230,8 @@ def main():
         today = f'{datetime.date.today():%d %B %Y}'.lstrip('0')
         said = COUNTED.search(page)
         renewed = '\n'.join(lines)
-        if said and said[2] != f'{len(of_call):,}': renewed = COUNTED.sub(f'On {today} {len(of_call):,} definitions stand behind `run`', renewed)
+        now = f'{len(of_call):,} definitions stand behind `run`, {steps:,} of them named by one other alone'
+        if said and now not in said[0]: renewed = COUNTED.sub(f'On {today} {now}', renewed)
         if renewed != page:
             with open(os.path.join(TOP, PAGE), 'w', encoding='utf-8') as out: out.write(renewed)
             page = renewed
@@ -237,9 +242,9 @@ def main():
     faults = [f'{PAGE}:{begin}: {what}' for begin, what in sorted(faults.items())]
     said = COUNTED.search(page)
     if not said: faults.append(f'{PAGE} gives no count')
-    elif said[2] != f'{len(of_call):,}': print(f'{PAGE} gives {said[2]}, of {said[1]}: --write renews it')
+    elif (said[2], said[3]) != (f'{len(of_call):,}', f'{steps:,}'): print(f'{PAGE} gives {said[2]} and {said[3]}, of {said[1]}: --write renews it')
     lines = sum(closure.modules[path].own[name].count('\n') + 1 for path, name in of_call)
-    print(f'{len(of_call):,} definitions behind `{NAME}`, {lines:,} lines, in {len({path for path, _ in of_call})} files of {len({path.split("/")[1] for path, _ in of_call})} crates; '
+    print(f'{len(of_call):,} definitions behind `{NAME}`, {steps:,} of them named by one other alone, {lines:,} lines, in {len({path for path, _ in of_call})} files of {len({path.split("/")[1] for path, _ in of_call})} crates; '
           f'{types} types and constants of the code; {len(of_outside)} definitions more in the contracts of the outside; {len(quotes(page))} quotes')
     if faults: sys.exit('\n'.join(faults))
 

@@ -16,7 +16,8 @@ use Rattle.mail_loop.specs.declared.serve.ServeFault.TheVariants.{Disk}
 use Rattle.mail_loop.specs.Serving.{Step, reads_in, unsealed_in}
 use Rattle.mail_proxy.specs.Check.{TellsText, count_line, counts_text}
 use Rattle.mail_proxy.specs.Generated.{generated}
-use Rattle.mail_proxy.specs.Script.{IsKeptWell, IsPlayedWell, Played, last_line, opening, status_of}
+use Rattle.mail_proxy.specs.Promises.{IsKeptWell}
+use Rattle.mail_proxy.specs.Script.{IsPlayedWell, Played, last_line, opening, status_of}
 use Rattle.mail_proxy.specs.Texts.{End}
 
 -- how many rounds there were, and the six lines of the counts

@@ -4,6 +4,8 @@ ghost use Rattle.command_words.specs.Usage.{command_of};
 ghost use Rattle.mail_proxy.specs.Answers.{Answers, Does};
 ghost use Rattle.mail_proxy.specs.Shows.{Shows};
 ghost use Rattle.mail_proxy.specs.Causes.{Comes};
+ghost use Rattle.mail_proxy.specs.Headline.{IsServed};
+ghost use Rattle.mail_proxy.specs.Promises.{HonestDisk};
 ghost use Rattle.mail_proxy.specs.Profiles.{uses_disk, uses_link, uses_text};
 ghost use Rattle.mail_proxy.specs.Completing.{EndsInTime, NoneFailed};
 ghost use Rattle.mail_proxy.specs.Due.{IsDue, IsHindered};
@@ -113,6 +115,10 @@ pub fn run<R: Threads + Sync, S: Source, L: Link, D: Disk + Drop, W: Sink, G: Ga
     // The status, what is written and the disk are those of the words, the text, the disk and the machine's run over its events.
     ensures says { (end : End D) × Answers D.told (map string_bytes words.now.items) (S.told text.old) (S.told text.new) (L.told link.old) (L.told link.new) result.0 (W.told out.old) (W.told out.new) disk end ×
         Shows end.status end.output result.0 (W.told out.old) (W.told out.new) × (result.1 ≡ end.disk) }
+    // Mail that was served to the end over an honest disk: what the machine answered, what the disk stands for, and what lasts.
+    ensures served { result.0 ≡ 0 → HonestDisk (D.told disk) → IsServed (command_of (map string_bytes words.now.items))
+        (record { text = S.told text.old; link = L.told link.old; disk = D.told disk; out = W.told out.old })
+        (record { text = S.told text.new; link = L.told link.new; disk = D.told result.1; out = W.told out.new }) }
     // When each status comes, and what is written then.
     ensures comes { Comes (command_of (map string_bytes words.now.items))
         (record { text = S.told text.old; link = L.told link.old; disk = D.told disk; out = W.told out.old })

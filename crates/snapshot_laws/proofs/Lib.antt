@@ -6,3 +6,4 @@ pub mod Steps
 pub mod Standing
 pub mod Counting
 pub mod Rows
+pub mod Marks

@@ -1,12 +1,14 @@
 //! These functions do nothing: their contracts are laws of the definitions.
-ghost use Rattle.std.specs.Prelude.{◌≡◌, ◌⊎◌, ℕ, ◌+◌, ◌≤◌, List, ◌∷◌, ◌++◌, false, length, Some};
-ghost use Rattle.std.specs.List.{Contains, list_any};
+ghost use Rattle.std.specs.Prelude.{◌≡◌, ◌⊎◌, ℕ, ◌+◌, ◌<◌, ◌≤◌, List, ◌∷◌, ◌++◌, false, length, None, Some, slice_get};
+ghost use Rattle.std.specs.List.{AllByRecursion, Contains, list_any};
 ghost use Rattle.std.specs.List.Sorted.{IsStrictlyIncreasing};
 ghost use Rattle.verb_core.specs.declared.conf.Conf.{Conf};
 ghost use Rattle.verb_core.specs.declared.mailbox.BoxId.{BoxId};
 ghost use Rattle.verb_core.specs.declared.mailbox.Mailbox.{Mailbox};
 ghost use Rattle.verb_bytes.specs.declared.journal.JournalRecord.{JournalRecord};
 ghost use Rattle.verb_bytes.specs.declared.journal.JournalRecord.TheVariants.{Snapshot};
+ghost use Rattle.seal_log.specs.declared.place.Place.{Place};
+ghost use Rattle.shelf.specs.Marks.{MarksRise, marks_at_or_before, newest};
 ghost use Rattle.store_kept.specs.Kept.{Kept, newest_at};
 ghost use Rattle.desk_journal.specs.Records.{goes_on, state};
 ghost use Rattle.snapshot_laws.specs.Usable.{IsUsable, rewinds_in, snapshots_in};
@@ -16,6 +18,16 @@ pub fn newest_at_is_the_last_at_or_before()
     ensures one { (place : ℕ) (places : List ℕ) → (newest_at place places ≡ 0) ⊎ Contains places (newest_at place places) }
     ensures before { (place : ℕ) (places : List ℕ) → newest_at place places ≤ place }
     ensures last { (place : ℕ) (places : List ℕ) → IsStrictlyIncreasing places → (n : ℕ) → Contains places n → n ≤ place → n ≤ newest_at place places }
+{}
+
+/// Of marks that rise, as a shelf tells that its own do, the newest of those that are not behind a position is one of the marks, and the
+/// greatest that is not behind it; where there is none, each is behind it.
+pub fn newest_mark_is_the_greatest()
+    ensures one { (position : ℕ) (marks : List (ℕ × Place)) (m : ℕ × Place) → newest (marks_at_or_before position marks) ≡ Some m → (k : ℕ) × (slice_get marks k ≡ Some m) }
+    ensures before { (position : ℕ) (marks : List (ℕ × Place)) (m : ℕ × Place) → newest (marks_at_or_before position marks) ≡ Some m → m.0 ≤ position }
+    ensures greatest { (position : ℕ) (marks : List (ℕ × Place)) (m : ℕ × Place) → MarksRise marks → newest (marks_at_or_before position marks) ≡ Some m →
+        AllByRecursion (λ (n : ℕ × Place). n.0 ≤ position → n.0 ≤ m.0) marks }
+    ensures none { (position : ℕ) (marks : List (ℕ × Place)) → newest (marks_at_or_before position marks) ≡ None → AllByRecursion (λ (n : ℕ × Place). position < n.0) marks }
 {}
 
 /// The places of the snapshots that a journal's records leave rise, and none is behind the timeline's end.

@@ -9,5 +9,6 @@ mod laws;
 
 pub use laws::{
     counts_are_the_records, cycles_begin_from_the_last_usable_snapshot,
-    newest_at_is_the_last_at_or_before, places_are_the_usable_snapshots, places_rise,
+    newest_at_is_the_last_at_or_before, newest_mark_is_the_greatest,
+    places_are_the_usable_snapshots, places_rise,
 };

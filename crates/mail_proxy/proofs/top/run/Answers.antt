@@ -4,6 +4,8 @@ use Rattle.mail_proxy.specs.Causes.{Comes, Outside}
 use Rattle.mail_proxy.proofs.Causes.{comes, unused_disk}
 use Rattle.mail_proxy.proofs.Completing.{completes}
 use Rattle.mail_proxy.proofs.Due.{due}
+use Rattle.mail_proxy.proofs.Headline.{served_of}
+use Rattle.mail_proxy.specs.Headline.{IsServed}
 use Rattle.mail_proxy.proofs.Rounds.{few_rounds}
 use Rattle.mail_proxy.proofs.top.run.Goals as goal
 
@@ -21,6 +23,20 @@ returns-clause-comes g c =
     (comes c.audits_settle_truth.ensures c.cuts_open.ensures.opens disk c.args.disk says.0 (text c.args.text.now) (text new.text) (link c.args.link.now) (link new.link)
     (out c.args.out.now) (out new.out) c.do_words.result.0 says.2
     words (few_rounds c.one_reading.ensures words) (λ e. ap link {x = new.link} (c.do_words.ensures.unlinked e)) says.1)
+
+pub returns-clause-served : goal.returns-clause-served
+returns-clause-served g c nought honest =
+    let text = g.S.Source.told in
+    let link = g.L.Link.told in
+    let out = g.W.Sink.told in
+    let disk = g.D.Disk.told in
+    let words = map string_bytes c.args.words.now.items in
+    let new = c.do_words.new in
+    let says = c.do_words.ensures.says in
+    let before : Outside = record { text = text c.args.text.now; link = link c.args.link.now; disk = disk c.args.disk; out = out c.args.out.now } in
+    subst (λ (d : g.row.D.Denot). IsServed (command_of words) before (record { text = text new.text; link = link new.link; disk = disk d; out = out new.out })) (sym says.3)
+    (served_of disk c.args.disk says.0 (text c.args.text.now) (text new.text) (link c.args.link.now) (link new.link) (out c.args.out.now) (out new.out) c.do_words.result.0
+    words says.1 says.2 nought honest)
 
 pub returns-clause-disk : goal.returns-clause-disk
 returns-clause-disk g c =

@@ -16,6 +16,7 @@ returns-in-Ok-clause-found g c =
       answers = says.1;
       shows = says.2;
       left_is = says.3;
+      served = c.run.ensures.served;
       comes = c.run.ensures.comes;
       due = c.run.ensures.due;
       complete = c.run.ensures.complete;
