@@ -35,8 +35,8 @@ returns-in-Bye-clause-turn g c =
     (bye_turn c.in-Bye.text c.bytes-in-Bye.result.now desk.kept d old new f c.bytes-in-Bye.ensures.value
     (ap (λ (o : Out). submits speech (service c.args.at desk.kept) desk.kept o d) c.in-Bye.is) refl c.say-in-Bye.ensures)
 
-pub returns-in-Submit-clause-turn : goal.returns-in-Submit-clause-turn
-returns-in-Submit-clause-turn g c =
+pub returns-clause-turn : goal.returns-clause-turn
+returns-clause-turn g c =
     let desk = c.args.desk.now in
     let new = c.submit.new in
     submits_turn g.S.Speaks.speech (HaveSealed g.D.Disk.told desk new.desk) c.args.at desk.kept new.desk.kept c.args.out (Submit c.in-Submit.ask) c.args.session.now new.session c.args.reply.now new.reply c.in-Submit.is c.submit.ensures.turn
