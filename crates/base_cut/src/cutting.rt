@@ -1,4 +1,8 @@
 //! A cut, written as it is read.
+//!
+//! The file of a cut is written as it is read: a text that can't be read leaves a beginning of it, and no line. Small records of
+//! a kind are written together, some 262,144 octets at a time, so that the beginning may end before records that were ready. The
+//! first gate takes no memory: want of memory while a cut is written comes behind a byte of it, unless the sink finds none.
 ghost use Rattle.std.specs.Prelude.{◌≡◌, ◌+◌, ◌-◌, ◌≤◌, ◌∷◌, ◌++◌, [], ℕ, List, Some, IfErr, IfOk, IsErrOf, IsTrue, drop, length, take};
 ghost use Rattle.std.specs.List.{AllByRecursion, list_all};
 ghost use Rattle.std.specs.Int.{to_be_bytes, w32};

@@ -1,5 +1,13 @@
 //! Effects: what an item does, made from a store and applied to it, or to one that has the same mailboxes where the item
 //! touches them.
+//!
+//! An effect names the entries whose flags change by their places, and those that go by their keys. Two aims of a delivery may be
+//! one mailbox: the mail is put one after the other.
+//!
+//! What an item's effect does in another store is said of each that has the same mailboxes where the item touches them
+//! (`IsEffect`), as `apply` is meant. Where it touches names of the item's user these are the same too. What a DELETE leaves
+//! depends on whether its user has an inferior of the name, and what a RENAME does on all names of its user. So the names count
+//! beside the mailboxes. A level leaves these names, so each item of a level may be worked out on the store before it.
 use mail_rows::{FlagChange, KeySet, Put};
 use undo_base::{Key, Name, Names, Sequence, User};
 use verb_core::{Act, BoxId, Shown, Way};

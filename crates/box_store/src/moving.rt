@@ -1,4 +1,8 @@
 //! Mailboxes that take other names: a row goes where its new name stands, past the rows between, and no other row moves.
+//!
+//! The rows of a RENAME move one after the other, each to a name that no row has. It moves past the rows between the two names
+//! alone, which are all of one user. That each mailbox has its superiors is a premise of what an effect does elsewhere, as
+//! `IsValid` says.
 ghost use Rattle.std.specs.Prelude.{◌≡◌, ◌+◌, ◌<◌, ◌≤◌, ◌++◌, ◌∷◌, suc, length, slice_index_or, IsTrue};
 ghost use Rattle.verb_core.specs.declared.mailbox.BoxId.{BoxId as TheBoxId};
 ghost use Rattle.verb_core.specs.declared.mailbox.Mailbox.{Mailbox as TheMailbox};

@@ -1,4 +1,6 @@
 //! Names that a CREATE or a RENAME gives to mailboxes, found beforehand on the mailboxes that there are.
+//!
+//! A CREATE and a RENAME carry the names that they make and those that they give, found when the effect is made.
 ghost use Rattle.std.specs.Prelude.{◌≡◌, ◌++◌, ◌∷◌, [], ◌-◌, not, drop, map, take, length, IsTrue, IfOk, OnOk, if◌then◌else◌};
 ghost use Rattle.verb_core.specs.Boxes.{box_of, has_row, is_at_or_below as is_below, is_rising};
 ghost use Rattle.verb_core.specs.Names.{moved_name, superiors};

@@ -1,4 +1,6 @@
 //! Room for an effect, so that applying it takes no memory.
+//!
+//! More than 4,294,967,295 entries in a mailbox, or UIDs up to the last of 64 bits, count as want of memory when room is made.
 ghost use Rattle.std.specs.Prelude.{◌≡◌, ◌+◌, ◌-◌, slice_index, ◌≤◌, ◌<◌, ◌^◌, [], ◌∷◌, Option, Some, None, true, IsTrue, IfOk, OnOk, bytes_eq, if◌then◌else◌, length, map, take, drop, vec_len, vec_capacity};
 ghost use Rattle.verb_core.specs.Names.{inbox, lost_found};
 ghost use Rattle.verb_core.specs.Boxes.{box_of, is_rising, mail_at};

@@ -1,4 +1,6 @@
 //! Stores made of rows, as a snapshot has them.
+//!
+//! Rows are looked at before memory is wanted for the store, so that a row which is refused is told whatever memory there is.
 ghost use Rattle.std.specs.Prelude.{◌≡◌, ◌↔◌, ◌≤◌, ◌<◌, ◌+◌, ◌&&◌, ℕ, List, None, Some, Err, IsTrue, IfOk, true, if◌then◌else◌, length, take};
 ghost use Rattle.std.specs.List.{list_all};
 ghost use Rattle.verb_core.specs.declared.conf.House.{House as TheHouse};

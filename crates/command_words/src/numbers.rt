@@ -1,4 +1,6 @@
 //! Numbers in digits.
+//!
+//! Numbers are read after the test on digits and the leading zero, so digits of any length are decided.
 ghost use Rattle.std.specs.Prelude.{◌≡◌};
 ghost use Rattle.command_words.specs.Numbers.{point_of, port_of, rounds_of};
 

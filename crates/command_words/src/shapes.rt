@@ -1,4 +1,7 @@
 //! The command that words are, by the words themselves.
+//!
+//! The port of POP3 is the last word of `serve`, and may be left out; `ports` tells the other three of either shape. Ports may be
+//! equal, as words: the second one of them cannot be had.
 ghost use Rattle.std.specs.Prelude.{◌≡◌, Option, map, string_bytes};
 ghost use Rattle.std.specs.List.{list_all};
 ghost use Rattle.command_words.specs.Usage.{is_word, alone, with_one, with_two, at_ports, with_ports, some_port, by_number, command_of};

@@ -1,4 +1,7 @@
 //! How many octets of a body the headers announce.
+//!
+//! Two lengths are the same where they are without the zeros in front: `029` is `29`. An empty value, a sign and a list (`1, 1`)
+//! are no digits.
 ghost use Rattle.std.specs.Prelude.{◌≡◌, ◌≤◌, All, length, map, min, true, find, option_copied, option_map, position, not, ◌==◌};
 ghost use Rattle.std.specs.Char.{is_ascii_digit};
 ghost use Rattle.std.specs.List.{list_all, list_any};

@@ -1,4 +1,9 @@
 //! The request that a connection's bytes are.
+//!
+//! A head of more than 64 header lines is too large, whatever else is wrong with it. A head that begins within the first 16,384
+//! octets and ends behind them is too large too.
+//!
+//! A target is UTF-8, because `httparse`'s grammar has no other.
 ghost use Rattle.std.specs.Prelude.{◌≡◌, ◌+◌, ◌<◌, ◌≤◌, ℕ, List, ◌++◌, length, take, drop, Some, IfOk, IfNone};
 ghost use Rattle.console_head.specs.Coming.{HasLearnt, IsKnown, IsLeast, looked_at};
 ghost use Rattle.console_head.specs.Request.{IsWhole, Says, SaysBy};

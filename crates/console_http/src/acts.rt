@@ -1,4 +1,7 @@
 //! The operator's acts.
+//!
+//! The local part of an alias act has the characters of the configuration's. It may be a user's name or `postmaster`, and then it
+//! never resolves to the alias.
 ghost use Rattle.std.specs.Prelude.{◌≡◌, IsTrue, IfOk, codes, is_some, option_map};
 ghost use Rattle.serde_json.specs.Find.{get};
 ghost use Rattle.serde_json.specs.View.{view};

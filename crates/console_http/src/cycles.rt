@@ -1,4 +1,16 @@
 //! What is asked of a cycle, and of a withdrawal.
+//!
+//! A cycle that is read always has a spelling, whatever number and moment it gets: a request's body has 4 MiB at most, so no list
+//! of it is too long.
+//!
+//! Keys are the same where their bytes are. `INBOX` in any case is no special key. A request's key has up to 64 bytes; a record's
+//! is a name, of up to 200.
+//!
+//! For a try the key may be missing or any JSON value. What it is told is the report under a new key, also where its key was
+//! used.
+//!
+//! `drop`, `replace` and `insert` may be missing; `null` in their place is no list, and refused. Of a member given twice the last
+//! counts, as everywhere in JSON here.
 ghost use Rattle.std.specs.Prelude.{◌≡◌, IsTrue, IfOk};
 ghost use Rattle.serde_json.specs.View.{view, items_view};
 ghost use Rattle.verb_core.specs.Store.{is_house};

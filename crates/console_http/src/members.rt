@@ -1,4 +1,7 @@
 //! The members of a JSON object.
+//!
+//! JSON is what `serde_json` reads. The body is UTF-8; of a member given twice the last stays and counts once; `1.0`, `1e0` and
+//! `-0` are no whole numbers; more than 127 levels are no JSON.
 ghost use Rattle.std.specs.Prelude.{◌≡◌, ◌≤◌, ◌<◌, ◌^◌, IsTrue, IfOk, IfSome, Some, codes, option_map, option_and_then};
 ghost use Rattle.serde_json.specs.Events.{members_len};
 ghost use Rattle.serde_json.specs.Find.{as_object, get};

@@ -1,4 +1,15 @@
 //! Which page a path is of.
+//!
+//! A page is found by the front of its path (`/box/`), and what follows are its parts; no front begins another. The fronts are
+//! not percent-decoded: `/st%61tus` is no route. An escaped slash is a byte of its part, a plain one ends it. A `?` is a byte
+//! like others.
+//!
+//! Routes are found by a `matchit` router, and the definition of a route is by fronts, methods and parts. What a row matches more
+//! than a route has is refused behind it. `/box/` takes the whole rest as one row, since a user's name may be any bytes that the
+//! house has, also none.
+//!
+//! A row that the router refuses is answered as want of memory: of these thirteen no two conflict, which the cases show. The router
+//! is made for each request.
 ghost use Rattle.std.specs.Prelude.{◌≡◌, [], IfOk, IsUtf8, OnOk};
 ghost use Rattle.console_http.specs.Pages.{AreBytes, acting_rows, page_at, page_rows, whole_rows};
 ghost use Rattle.console_http.specs.Routes.{front_of, method_of};

@@ -1,4 +1,11 @@
 //! What the bytes of a connection ask of the console.
+//!
+//! `read_request` asks for a sound house, since users are found in it.
+//!
+//! Want of memory is answered only for a request.
+//!
+//! The body of `POST /upgrade` is empty, which is no octet at all, or a JSON object without a member, round which there may be
+//! JSON's blanks. Blanks alone are no JSON.
 ghost use Rattle.std.specs.Prelude.{◌≡◌, ◌≤◌, ◌++◌, List, ℕ, IsTrue, IsUtf8, IfOk, IfSome, Ok, option_map};
 ghost use Rattle.verb_core.specs.Store.{is_house};
 ghost use Rattle.console_head.specs.Coming.{IsKnown, looked_at};

@@ -1,4 +1,6 @@
 //! The short bodies of answers.
+//!
+//! `Counts` of mail_desk are what a desk counts; `StatusCounts` are what the console tells of them.
 ghost use Rattle.std.specs.Prelude.{◌≡◌, IfOk, string_bytes};
 ghost use Rattle.serde_json.specs.View.{view};
 ghost use Rattle.serde_json.specs.Written.{compact_text};

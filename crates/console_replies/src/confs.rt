@@ -1,4 +1,6 @@
 //! Configurations.
+//!
+//! `/conf` puts each alias under its local part, in byte order.
 ghost use Rattle.std.specs.Prelude.{◌≡◌, IfOk, OnOk, codes, map, string_bytes};
 ghost use Rattle.serde_json.specs.Data.{member, object, string};
 ghost use Rattle.serde_json.specs.View.{view, items_view, items_of, members_view};

@@ -1,4 +1,6 @@
 //! Whole answers.
+//!
+//! An answer of more than 4,294,967,295 bytes finds no memory.
 ghost use Rattle.std.specs.Prelude.{◌≡◌, ◌++◌, IsTrue, IfOk, OnOk};
 ghost use Rattle.std.specs.Fmt.{decimal};
 ghost use Rattle.console_replies.specs.Reply.{is_status, reason_of, reply_of, status_line, header_line, type_line, length_line, close_lines, head_lines};

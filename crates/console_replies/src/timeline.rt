@@ -1,4 +1,7 @@
 //! Items of the timeline.
+//!
+//! A row shows the mailbox that its deed names first: the source of COPY and RENAME, and that of the acts REMOVE and GIVE. Of
+//! DELIVER, LIST, NOTICE and the acts on aliases and filters it is `""`. A user who is not known has the name `""`.
 ghost use Rattle.std.specs.Prelude.{◌≡◌, IfOk, map, string_bytes, option_map, unwrap_or, []};
 ghost use Rattle.serde_json.specs.View.{view, items_view, items_of};
 ghost use Rattle.serde_json.specs.Written.{compact_text};

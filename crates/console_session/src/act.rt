@@ -1,4 +1,6 @@
 //! The operator's acts: sealed, performed and then answered.
+//!
+//! An act that is done, or that could not be sealed, is answered as that or not at all.
 ghost use Rattle.std.specs.Prelude.{◌≡◌, IsTrue, Ok, false};
 ghost use Rattle.std.specs.List.{list_all};
 ghost use Rattle.verb_core.specs.declared.item.Deed.TheVariants.{Act as Acts};

@@ -1,4 +1,6 @@
 //! The routes that look at the desk, and the refusals of requests.
+//!
+//! GET /timeline looks at the items where they lie.
 ghost use Rattle.std.specs.Prelude.{◌≡◌, List, ℕ, IfOk, IsTrue, Some, unwrap_or};
 ghost use Rattle.serde_json.specs.Written.{compact_text};
 ghost use Rattle.console_replies.specs.Bodies.{body_data, error_data};

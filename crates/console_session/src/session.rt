@@ -1,4 +1,11 @@
 //! A console connection, as far as its bytes came.
+//!
+//! A session holds the bytes that came, and answers over the desk on its disk. It asks for an open desk, since serving ends with
+//! the first record that was not sealed.
+//!
+//! A stop is done with its answer: where no memory is found for that, the operator is told of want of memory and serving goes on.
+//!
+//! What comes behind a request is not looked at, in the same piece or later: the connection is closed.
 ghost use Rattle.std.specs.Prelude.{◌≡◌, ◌<◌, ◌≤◌, ◌++◌, [], false, length, Ok};
 ghost use Rattle.console_http.specs.Requests.{AskKnows, KnowsUsers};
 ghost use Rattle.console_http.specs.declared.request.Asked.TheVariants.{Whole};

@@ -1,4 +1,9 @@
 //! An upgrade that the operator asks for, after which names may have superiors: sealed, and then answered.
+//!
+//! An upgrade of a store that was upgraded before is answered alike and closes nobody, so that who lost the answer may ask again.
+//! Its body is read all the same.
+//!
+//! An upgrade that is sealed is answered or not, as an act is; that IMAP clients are sent away does not depend on it.
 ghost use Rattle.std.specs.Prelude.{◌≡◌, Ok, false};
 ghost use Rattle.console_http.specs.declared.request.Asked.TheVariants.{Whole};
 ghost use Rattle.console_http.specs.declared.request.Route.TheVariants as route;

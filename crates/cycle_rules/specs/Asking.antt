@@ -1,4 +1,7 @@
 -- What becomes of a request for a cycle.
+--
+-- What is due to a request is one definition of four cases (`Due`), which the desk, the records that can stand and the console's
+-- turn share.
 use Rattle.std.specs.Prelude.{ℕ, List, Option, Some, None, drop, if◌then◌else◌}
 use Rattle.verb_bytes.specs.declared.journal.CycleAsk.{CycleAsk}
 use Rattle.paradox.specs.declared.reports.Report.{Report}

@@ -1,4 +1,12 @@
 -- A withdrawal: the last cycle is taken back, and the work since then stays.
+--
+-- An upgrade, a snapshot, an item and a trial leave what can be withdrawn; a cycle or a withdrawal whose key was used sets and
+-- takes away nothing.
+--
+-- `kept` counts the notices of the withdrawn cycle, which stand behind the point as later items do.
+--
+-- A number that is not the last cycle's is told before missing numbers are. A key that was used is told before both, also a
+-- cycle's key at a withdrawal and the other way round.
 use Rattle.std.specs.Prelude.{ℕ, Option, Some, None, [], drop, length, if◌then◌else◌, List}
 use Rattle.verb_core.specs.declared.item.Item.{Item}
 use Rattle.withdraw.specs.declared.undone.UndoneBehind.{UndoneBehind}

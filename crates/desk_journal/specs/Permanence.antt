@@ -1,4 +1,10 @@
 -- What an IMAP client goes by that keeps mail by UID, and what holds of all that is ever kept.
+--
+-- What is kept is `IsSound` where a base carries it (`HasBase`) and its store is what its items leave (`IsRun`). Its items are
+-- well formed with distinct numbers below the next one, and its stamps name the mailboxes and are below it. Each desk tells all
+-- that but `IsRun` (`stands`). That what the last cycle left can come back is in it too (`HasUndone`). That revs are below the
+-- next number is told of all that records leave, not of each desk. So is that the texts of what can come back are those that were
+-- there (`HasUndoneTexts`). Only the law over records needs it.
 use Rattle.std.specs.Prelude.{◌≡◌, ℕ, ◌+◌, ◌<◌, ◌==◌, Bool, false, List, [], ◌∷◌, ◌++◌, length, map, find, Option, None, option_map, IsTrue, if◌then◌else◌}
 use Rattle.std.specs.List.{AllByRecursion, list_all}
 use Rattle.std.specs.Option.{option_map_or}

@@ -1,4 +1,7 @@
 -- Records, what they leave one after the other, and when one can stand.
+--
+-- A journal's records are true (`are_true`) where no record that stands in it is false. Of a record that cannot stand, and of
+-- those behind it, it says nothing, since no call reads them.
 use Rattle.std.specs.Prelude.{◌≡◌, ℕ, ◌==◌, nat_lt, Bool, true, false, ◌&&◌, not, List, [], ◌∷◌, map, length, nat_le, is_some, Option, Some, None, option_and_then, option_map, if◌then◌else◌}
 use Rattle.std.specs.Coded.{Coded, codes}
 use Rattle.std.specs.Option.{option_map_or}

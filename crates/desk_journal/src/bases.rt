@@ -1,4 +1,11 @@
 //! When a Base can stand: its next number, its mailboxes, its stamps and its reports.
+//!
+//! Aliases and filters of a Base stand in the order in which they are in force, as in a snapshot: no order is asked of aliases.
+//!
+//! Users that are known: those of aliases, mailboxes, stamps, and of the `broken` and `renewed` of reports. Nothing else binds
+//! the numbers in a report; its verbs are the thirteen of users.
+//!
+//! A Base's next number may lie below the house's first one; numbers go on from the Base's.
 ghost use Rattle.std.specs.Prelude.{◌≡◌, ℕ, List, nat_le, nat_lt, [], ◌∷◌, map, ◌&&◌, ◌++◌, Bool, IfOk, OnOk};
 ghost use Rattle.std.specs.List.{list_all, IsAllAdjacentAnswer};
 ghost use Rattle.std.specs.List.Sorted.{IsPermutation, IsSortedBy};

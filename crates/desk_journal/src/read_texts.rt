@@ -1,4 +1,8 @@
 //! The texts of a desk, read where they lie in its journal.
+//!
+//! What reads texts for a cycle, a try and a plan (`Reading`) borrows the desk in memory whole, the disk, and the place of the
+//! last gate. It counts its failed reads itself, and after one it answers so without reading, so that a failed read is counted
+//! once by whoever asked.
 ghost use Rattle.std.specs.Prelude.{◌≡◌, ◌+◌, ◌≤◌, ℕ, List, Some, true, false, option_copied, IfOk, OnOk, IfErr, IsErrOf, IsTrue};
 ghost use Rattle.std.specs.Option.{option_map_or};
 ghost use Rattle.verb_core.specs.Texts.{Gives, Rose};

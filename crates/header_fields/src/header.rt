@@ -1,4 +1,6 @@
 //! The header of a text, and what follows it.
+//!
+//! A text without an empty line is all header. A lone CR or LF ends no line, so neither makes an empty line.
 ghost use Rattle.std.specs.Prelude.{◌≡◌, ◌≤◌, length, take};
 ghost use Rattle.header_fields.specs.Header.{header_of, behind_header as header_behind};
 

@@ -1,4 +1,8 @@
 //! The calls that a disk makes on its file.
+//!
+//! A disk over a file (`DiskOver`) makes its calls through a small trait, `FileCalls`: made, read, written, synced whole, its
+//! bytes synced, its folder synced. What a call of the disk that succeeds does to the file is a clause of that call over what
+//! such an object tells. Of one that fails it is said only that it was counted.
 ghost use Rattle.std.specs.Prelude.{List, Option, length};
 ghost use Rattle.host_outside.specs.Files.{Does};
 ghost use Rattle.host_outside.specs.declared.calls.FileCall.{FileCall as Call};

@@ -1,4 +1,13 @@
 //! One connection, of which the other side may take its time.
+//!
+//! A connection that was closed here, or that left, keeps its number until all that was sent is taken and the other side has
+//! left. It keeps it for 10 seconds at most in which it takes nothing. What it still sends is read and dropped, so that an answer
+//! reaches a client that sends on.
+//!
+//! A client that closes its side alone has left: what it sent before is served, and what was answered by then is still sent.
+//!
+//! What a stream took or gave is said over std's `contents` and `remaining`, of which the sockets of this machine tell nothing.
+//! That a socket sends what it was written is trusted, as is its system.
 ghost use Rattle.std.specs.Prelude.{◌≡◌, ◌⊎◌, ◌<◌, ◌≤◌, ◌+◌, ℕ, true, false, Ok, IfOk, IsSome, IfSome, OnErr, is_err, length};
 ghost use Rattle.std.specs.Result.{result_unwrap_or};
 ghost use Rattle.host_outside.specs.Streams.{IsExchanged, IsGiven, IsMissed, IsPassedOn, IsTaken, IsWhole, LingersOn};

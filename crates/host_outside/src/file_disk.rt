@@ -1,4 +1,18 @@
 //! A file as a disk, which tells its length and its counts alone, and what each of its calls does to the file.
+//!
+//! A `FileDisk` (`DiskOver<PathFile>`) makes a missing file at the first write, for its owner alone, and syncs the file's folder
+//! at the sync after that.
+//!
+//! A file that is found with nothing in it counts as new. Its folder is synced with it at the next sync, since nobody knows
+//! whether the one who made it did so.
+//!
+//! A write for which there is no room (ENOSPC, EDQUOT, EFBIG: on the device, for the user, in a file) is want of memory where it
+//! went behind the end. What it left there is cut off again, and nothing has changed. What a write has before and behind the end
+//! is written apart, the part behind first; so no room is never found in the middle of what stands. There (a gate's byte; the
+//! rest of a frame that a stop left) it is a failed write, as is one whose cut failed. A sync that finds no room has failed.
+//! Until the next sync a crash may leave some of what such a write put behind the end, which the model's honest disk has no image
+//! of. It lies behind the last gate, which is closed, and no opening looks behind a closed gate. That is trusted of the file and
+//! not proved.
 ghost use Rattle.std.specs.Prelude.{◌≡◌, ◌≢◌, ◌≤◌, ◌+◌, [], ◌∷◌, length, take, drop, max, true, false, if◌then◌else◌, IfOk, IsErrOf, OnOk, OnErr};
 ghost use Rattle.undo_outside.specs.Calls.{Rose, RoseOnce, then_told};
 ghost use Rattle.undo_outside.specs.declared.fault.Fault.TheVariants.{NoMemory};

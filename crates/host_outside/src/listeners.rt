@@ -1,4 +1,13 @@
 //! The ports on which connections come, of this machine alone, and what the system tells of them and of the connections.
+//!
+//! The ports are a list of rows, each with what is spoken there, the number that was asked for and what listens. They are SMTP,
+//! IMAP, the console, and POP3 where a port of it is given. They are had, looked at and told in this order, and nothing else in
+//! the link knows how many there are. Where no memory is found for the list, that `next` found none: what was had is given up,
+//! and the next one begins anew.
+//!
+//! How many may wait at a port until they are taken is 4,096, or what the system lets (`net.core.somaxconn`). By std it would be
+//! 128, so the listener is told the greater number by the C library's `listen`, which the kit declares. Beside it only the
+//! waiting goes past std.
 ghost use Rattle.std.specs.Prelude.{◌≡◌, ◌∷◌, [], ◌++◌, true, Ok, IfOk, IfSome, map, slice_get};
 ghost use Rattle.std.specs.Option.{option_map};
 ghost use Rattle.undo_outside.specs.declared.event.Role.TheVariants.{Pop};

@@ -1,4 +1,6 @@
 //! Locks of a whole file, of which each call answers at once.
+//!
+//! `check`, `cut` and `audit` take the shared lock: any number of them may look at a store that nobody serves.
 use std::fs::{File, TryLockError};
 use std::io::{self, ErrorKind};
 

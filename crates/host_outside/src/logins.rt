@@ -1,4 +1,9 @@
 //! What a string to an IMAP client says of its logins.
+//!
+//! A login that was refused is seen in what is told to the reader: `NO Login failed.` before the first `OK LOGIN done.`. Over
+//! POP3 it is `-ERR Login failed.` before the first answer that ends in ` messages`, which only a PASS that is done has before a
+//! login. So neither the dialog nor the machine knows of the line. A POP3 login that is refused because the user has another
+//! session is none of them. SMTP has no passwords.
 use undo_outside::Role;
 
 /// The end of the answer to a login with a wrong name or password, and the end of that to one that is done, where a role has

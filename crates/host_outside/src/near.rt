@@ -1,4 +1,13 @@
 //! The octets of a file that were read last, and what the system is told of those that come next.
+//!
+//! A read at a place tells the system that the next million octets are read soon, 131,072 at a time and each once. Else a search
+//! for frames, which reads five octets of each, waits for the disk at each frame of a store that is not in the system's memory.
+//! Whether the system listens is not looked at. `check`, `cut` and `audit` open a store that nobody may write meanwhile. They
+//! keep the 4,096 octets that were read last, from a multiple of as many on, and answer reads of up to 1,024 octets from there.
+//! So small records are read by the block. A command that may write reads each time from the file. So `audit` of a store of no
+//! more than 4,096 octets goes through its small records once more as they were read at opening, and not on the file. Where the
+//! block cannot be read, what was asked for is read by itself: a read that failed for the block alone is neither told nor
+//! counted.
 ghost use Rattle.std.specs.Prelude.{◌≤◌};
 
 use std::io;

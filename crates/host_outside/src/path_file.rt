@@ -1,5 +1,22 @@
 //! The file at a path of this machine. Nothing says what its calls do but std: each is a line or two. Of a call that failed
 //! a line on standard error says which it was, and why.
+//!
+//! What is no plain file (a folder, a device, a pipe) has no length: each call fails. A file that may not be written is opened
+//! for reading, so `check` works on it, and a seal fails.
+//!
+//! Before each write behind the end, so before each seal, the open file is compared with what stands at its path (device, inode)
+//! and with the length that is told. Where it was removed, renamed, renamed over or cut, the write has failed: 421 and status 5,
+//! and nothing is acknowledged into a file that nobody finds again. It is looked at with each seal and not once a second: two
+//! calls beside two syncs. A file that was written over by one of the same length, and what happens to it between the look and
+//! the answer, is not noticed.
+//!
+//! What no clause covers, and tests/system alone shows, is that the methods of `PathFile`, and the functions below them, do what
+//! their names say, since it tells nothing. These are opening, the locks, the length that is found, standing at its path, and
+//! reading and writing at a place. So are giving what was read before, telling of what is read soon, cutting, and the three
+//! syncs. The same of which `State` a disk is opened in.
+//!
+//! A store at a symbolic link that leads nowhere is not made: a new store is opened as a file that is not there yet, so `init`
+//! answers `disk fault`.
 ghost use Rattle.std.specs.Prelude.{None};
 
 use crate::calls::FileCalls;

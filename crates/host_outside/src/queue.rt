@@ -1,4 +1,15 @@
 //! The seats that may have something, in the order in which they are visited.
+//!
+//! Who is told of is called, once, and stays called until a visit at which nothing came and nothing was taken. By then each of
+//! its calls had found no more: what is told comes at a change alone. What is sent a string, is closed, or has just come is
+//! called too. An event may be spurious: that visit finds nothing.
+//!
+//! In a round come the ports, where somebody may wait: the system told of one, a seat became free, or a second has passed. One at
+//! which connections wait stays next until none does. Then comes each that was called when the round began, once, in the order of
+//! the calls. Before them come those that are told of in the round and were not active in it. So whoever was silent waits for one
+//! event, and not for a round. In each millisecond the system is asked without waiting. Each second all seats are gone through,
+//! and those visited whose connection ends, so that they are given up in time. Each eighth time all others are visited too, so
+//! that something of which the system did not tell would be found all the same.
 ghost use Rattle.std.specs.Prelude.{◌≡◌, ◌∷◌, [], IfNone, IfSome};
 ghost use Rattle.host_outside.specs.Queue.{Adds, all_of, due_of, is_calm};
 

@@ -1,4 +1,8 @@
 //! Lines on standard error, for whoever runs the program. None holds a text of mail or a password, and one that can't be written is lost.
+//!
+//! What went wrong is a line of the call and the system's error, as it happens; standard output and statuses are as the formats
+//! fix them. Some lines a client can bring about again and again: no room, a failed read, a connection that cannot be taken, a
+//! wrong password. They come once a second at most of each kind. No line holds a name of mail either.
 ghost use Rattle.std.specs.Prelude.{◌≡◌, None, Some, IfSome, IfNone};
 
 use std::io::{self, ErrorKind};

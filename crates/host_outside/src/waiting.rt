@@ -1,4 +1,7 @@
 //! The bytes that wait to be sent over a connection, in order.
+//!
+//! What a slow reader does not take is kept. While more than 1,048,576 bytes wait for a connection it is not read; while more
+//! than 67,108,864 wait, a further string is missed. So a single answer is never cut.
 ghost use Rattle.std.specs.Prelude.{◌≡◌, ◌≤◌, ◌++◌, [], length, drop, OnOk, OnErr};
 
 use std::alloc::Global;

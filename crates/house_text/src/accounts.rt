@@ -1,4 +1,6 @@
 //! The users of a house.
+//!
+//! Users stand in the order of their array.
 ghost use Rattle.std.specs.Prelude.{◌≡◌, true, IfOk, IfSome, ◌<◌, map, option_map, position, bytes_eq, ◌≤◌, length};
 ghost use Rattle.toml.specs.View.{view, table_view};
 ghost use Rattle.undo_base.specs.Name.{is_name};

@@ -1,4 +1,6 @@
 //! The aliases of a document.
+//!
+//! The order of keys means nothing. Aliases stand by rising local part, as TOML's tables do.
 ghost use Rattle.std.specs.Prelude.{◌≡◌, ◌≤◌, IfOk, IfSome, IsTrue, [], length, map, option_map, string_bytes};
 ghost use Rattle.std.specs.List.{list_all, list_any};
 ghost use Rattle.toml.specs.View.{view, table_view};

@@ -1,4 +1,7 @@
 //! What stands in a table of TOML.
+//!
+//! What a text means is what the kit's `toml` says. An inline array of tables is the same as `[[user]]`, `0x10` is a whole
+//! number, `2.0` is none, and a byte order mark before the text is passed over. A key that stands twice is no TOML.
 ghost use Rattle.std.specs.Prelude.{◌≡◌, length, map, option_map, option_and_then};
 ghost use Rattle.toml.specs.Data.{get_member, as_str, as_array};
 ghost use Rattle.toml.specs.View.{view, table_view};

@@ -1,4 +1,8 @@
 //! What the texts of a configuration may be.
+//!
+//! The postmaster's name and the names in aliases are compared byte for byte; user names have no capital letters.
+//!
+//! A name that was tested and that `Name::read` would refuse would be told as want of memory; no tested name is refused.
 ghost use Rattle.std.specs.Prelude.{◌≡◌, bytes_eq, map};
 ghost use Rattle.std.specs.List.{list_all, list_any};
 ghost use Rattle.undo_base.specs.Name.{is_printable};

@@ -1,4 +1,9 @@
 //! The answers to FETCH and STORE.
+//!
+//! A message of which `\Seen` is set tells FLAGS as they are after the FETCH wherever FLAGS stands among the attributes. It
+//! stands last, once, where it was not asked for and the message lacked `\Seen`.
+//!
+//! STORE tells the flags that it leaves also where they did not change.
 ghost use Rattle.std.specs.Prelude.{◌≡◌, ◌++◌, IfOk, OnOk, map};
 ghost use Rattle.std.specs.List.{list_any};
 ghost use Rattle.imap_fetch.specs.Asked.{is_uid as is_uid_of, is_flags as is_flags_of};

@@ -1,4 +1,7 @@
 //! The values of a message's attributes.
+//!
+//! Where a message has no text beside it, none of its bytes are told (`{0}`); a session hands over a text for each message
+//! wherever a body section is asked for.
 ghost use Rattle.std.specs.Prelude.{◌≡◌, ◌++◌, IfOk, OnOk, map};
 ghost use Rattle.imap_fetch.specs.Told as spec;
 

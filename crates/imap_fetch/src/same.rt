@@ -1,4 +1,10 @@
 //! Whether two attributes are the same: in their word, section, names as they are spelled, part and PEEK.
+//!
+//! Two attributes are the same where their words, their sections and PEEK are. So `(BODY[] BODY.PEEK[])` and `(RFC822 BODY[])`
+//! tell the text twice, and each counts as a body section; a repeat counts once.
+//!
+//! Two sections are the same also in their field names as they are spelled and in their part. So `BODY[HEADER.FIELDS (To)]` and
+//! `BODY[HEADER.FIELDS (TO)]` are two.
 ghost use Rattle.std.specs.Prelude.{◌≡◌};
 ghost use Rattle.imap_fetch.specs.declared.asked.Attribute.TheVariants.{Body};
 ghost use Rattle.imap_fetch.specs.Asked as spec;

@@ -1,4 +1,6 @@
 //! The arguments of APPEND (RFC 3501, section 6.3.11).
+//!
+//! The date of APPEND is a quoted string, no literal.
 ghost use Rattle.std.specs.Prelude.{◌≡◌, option_map, IfOk};
 ghost use Rattle.imap_lines.specs.Append.{append_in};
 ghost use Rattle.imap_lines.specs.Append as spec;

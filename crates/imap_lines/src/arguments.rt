@@ -1,4 +1,6 @@
 //! The last arguments of commands.
+//!
+//! A literal is copied twice, into a token and into the command.
 ghost use Rattle.std.specs.Prelude.{◌≡◌, option_map};
 ghost use Rattle.imap_lines.specs.Arguments as spec;
 

@@ -1,4 +1,6 @@
 //! What FETCH and STATUS ask for, as it is written.
+//!
+//! `(FAST)` is bad: FAST stands alone. A list of attributes, STATUS items or fields has at least one.
 ghost use Rattle.std.specs.Prelude.{◌≡◌, [], true, IfOk, option_map};
 ghost use Rattle.imap_lines.specs.Asks.{status_in, statuses_from, part_in, tail_in};
 ghost use Rattle.imap_lines.specs.Asks as spec;

@@ -1,4 +1,6 @@
 //! The arguments of FETCH, STORE, COPY and SEARCH (RFC 3501, sections 6.4.4 to 6.4.8).
+//!
+//! STORE wants at least one flag where it has no parentheses; `()` is no flag.
 ghost use Rattle.std.specs.Prelude.{◌≡◌, [], option_map, IfOk};
 ghost use Rattle.imap_lines.specs.Messages.{how_in, listed_flags, store_flags, change_in, fetch_of, store_of, copy_of, search_of, with_sought};
 

@@ -1,4 +1,6 @@
 //! The words of commands.
+//!
+//! `UID FOO`, `UID NOOP` and `UID` alone are unknown: the words of the UID forms are two, with one space between them.
 ghost use Rattle.std.specs.Prelude.{◌≡◌, option_map};
 ghost use Rattle.imap_lines.specs.Verbs as spec;
 

@@ -1,4 +1,6 @@
 //! What a command asks, by its verb and its arguments.
+//!
+//! AUTHENTICATE takes any arguments, none and bytes outside the grammar among them.
 ghost use Rattle.std.specs.Prelude.{◌≡◌, IfOk};
 ghost use Rattle.imap_lines.specs.What.{what_in, with_mailbox, with_list};
 ghost use Rattle.imap_lines.specs.What as spec;

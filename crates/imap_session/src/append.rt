@@ -1,4 +1,9 @@
 //! APPEND, CHECK, CLOSE and COPY (RFC 3501, sections 6.3.11, 6.4.1, 6.4.2 and 6.4.7).
+//!
+//! The target of a COPY that is no name is looked at after the message numbers.
+//!
+//! COPY to a target that is no name is answered as a COPY to a missing one: `No such mailbox` where the selected mailbox is gone,
+//! else TRYCREATE.
 ghost use Rattle.std.specs.Prelude.{◌≡◌, true, not, IfOk, OnErr, IfSome};
 ghost use Rattle.verb_core.specs.Store.{IsValid};
 ghost use Rattle.imap_session.specs.declared.dialog.Awaits.{Awaits as TheAwaits};

@@ -1,4 +1,10 @@
 //! CREATE, DELETE, RENAME, SUBSCRIBE and UNSUBSCRIBE (RFC 3501, sections 6.3.3 to 6.3.7).
+//!
+//! Every mailbox is subscribed to: LSUB gives what LIST gives, and SUBSCRIBE and UNSUBSCRIBE are done whatever they name.
+//!
+//! RENAME to what is no name is refused first. Of one from what is no name to a name, the first refusal of the store that would
+//! hold is told. It is told by the shape that new names have in a store that is deep or not. What is no name is no superior and
+//! has no inferiors.
 ghost use Rattle.std.specs.Prelude.{◌≡◌, IfOk, OnErr};
 ghost use Rattle.imap_view.specs.Names.{made_mailbox_of as made_mailbox_named, mailbox_of as mailbox_named};
 ghost use Rattle.imap_session.specs.Dialog.{took};

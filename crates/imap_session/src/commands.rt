@@ -1,4 +1,10 @@
 //! What commands do to a dialog.
+//!
+//! SELECT of a mailbox that is not there, or that is no name, leaves none selected; one whose arguments are not in the grammar is
+//! no SELECT.
+//!
+//! After a SELECT or EXAMINE for which no memory was found no mailbox is selected, as after one that is refused. So a client that
+//! sends on without waiting can do nothing to the mailbox before.
 ghost use Rattle.std.specs.Prelude.{◌≡◌, ◌++◌, [], true, IsTrue, IfOk, OnErr, IfSome};
 ghost use Rattle.verb_core.specs.Live.{mail_of as mail_in};
 ghost use Rattle.verb_core.specs.Store.{is_house, IsValid};

@@ -1,4 +1,10 @@
 //! FETCH: the messages that it names, the texts that it needs, and what it asks of the store.
+//!
+//! A FETCH whose messages are all gone by UID, or that shows no text, asks the store at once. One that the store is to refuse (a
+//! message that a sequence number names is gone, more than 65,536 keys, more than 268,435,456 octets) reads no text.
+//!
+//! UID FETCH and UID STORE ask for the keys of all messages of the view that they name, also of those that are gone; gone ones
+//! don't count in the octets.
 ghost use Rattle.std.specs.Prelude.{◌≡◌, map, true, false, IfOk, OnErr, IfSome, Ok, Err};
 ghost use Rattle.shelf.specs.Notes.{size_of};
 ghost use Rattle.verb_core.specs.Store.{IsValid};

@@ -1,4 +1,8 @@
 //! LIST, LSUB and STATUS (RFC 3501, sections 6.3.8 to 6.3.10).
+//!
+//! A LIST whose pattern has no bytes asks nothing of the store, whatever its reference.
+//!
+//! A LIST's outcome is told with the delimiter that its command was given: a turn is served whole, and no upgrade comes between.
 ghost use Rattle.std.specs.Prelude.{◌≡◌, ◌++◌, [], IfOk, IsTrue, OnErr};
 ghost use Rattle.verb_core.specs.Boxes.{is_rising};
 ghost use Rattle.verb_core.specs.Store.{IsValid};

@@ -1,4 +1,10 @@
 //! One command.
+//!
+//! A NOOP that finds the view to be the mailbox takes no memory for a view. It still compares each message, since nothing in a
+//! mailbox tells that it did not change. But between the commands that came in one piece the store changes only by what they ask.
+//! So behind a NOOP or CHECK the view is known to be current, and a further one compares nothing. That ends where a command reads
+//! texts, asks something of the store or finds no memory (`stays_current`). It is known while one piece is served alone; the
+//! session keeps nothing of it.
 ghost use Rattle.std.specs.Prelude.{◌≡◌, true, IsTrue, IfOk, OnErr, IfSome};
 ghost use Rattle.shelf.specs.Notes.{size_of};
 ghost use Rattle.verb_core.specs.Store.{is_house, IsValid};

@@ -1,4 +1,11 @@
 //! What is read of a command.
+//!
+//! The 65,536 octets are those of all lines of a command together, with their literal marks, without CRLF and literals. They are
+//! told when the CRLF has come. Of a line that is too long no more than its tag is kept until then.
+//!
+//! A literal that is refused is not taken: its command ends with its line, and the octets that follow are read as lines.
+//!
+//! A literal is invited on a line without a tag too; the command is refused when it has come whole.
 ghost use Rattle.std.specs.Prelude.{◌≡◌, ◌≢◌, ◌+◌, ◌≤◌, length, None, IfOk, OnOk, OnErr};
 ghost use Rattle.imap_stream.specs.Commands.{first_line, tag_of_command, nothing, with_literal, awaited, ended, marked, says_next};
 ghost use Rattle.imap_stream.specs.Commands as spec;

@@ -1,4 +1,6 @@
 //! The tags of lines, and the marks of literals.
+//!
+//! A space behind the `}` makes it no mark. The digits of a mark may begin with zeros; eleven digits are no mark.
 ghost use Rattle.std.specs.Prelude.{◌≡◌, ◌≤◌, ◌<◌, true, length, IsTrue, IfSome, option_map};
 ghost use Rattle.std.specs.List.{list_all};
 ghost use Rattle.undo_base.specs.Digits.{number_of};

@@ -1,4 +1,7 @@
 //! The messages that a set names (RFC 3501, 6.4.8 and 9: sequence-set).
+//!
+//! A range to `*` has the last number also where it begins beyond it (`UID 9:*` finds the last message), in a FETCH as in a
+//! SEARCH. A range runs either way.
 ghost use Rattle.std.specs.Prelude.{◌≡◌, ℕ, ◌+◌, ◌-◌, ◌^◌, ◌≤◌, ◌<◌, ◌++◌, List, true, false, length, min, max, slice_index, IfOk, OnOk};
 ghost use Rattle.std.specs.List.Sorted.{IsNonDecreasingBy, IsStrictlyIncreasing};
 ghost use Rattle.imap_stream.specs.Sets.{greatest_of, number_at, beyond, covered, first_beyond, places_in, run_from, picked, Picks};

@@ -1,4 +1,11 @@
 //! A stream that comes in pieces.
+//!
+//! Bytes that were read are taken out of the buffer as the next thing is given, and not when bytes come. `Pieces::held` counts
+//! what is kept then; where bytes have come that `next` has not looked at, it tells what `next` will leave of them. Memory may be
+//! wanted for a line that is too long before its end has come, since its tag is kept.
+//!
+//! `Pieces::held` tells the bytes of a stream of which nothing more can be given, as after a `NotYet`: its clause has that
+//! premise.
 ghost use Rattle.std.specs.Prelude.{◌≡◌, ◌≤◌, [], IfOk, OnOk, OnErr};
 ghost use Rattle.imap_stream.specs.Commands.{heard, before, nothing, TakesNext, WantsMemory};
 ghost use Rattle.imap_stream.specs.Holding.{held_in};

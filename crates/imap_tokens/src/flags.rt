@@ -1,4 +1,6 @@
 //! Flags, as they are written.
+//!
+//! A flag is an atom, with or without a `\` before it; all but the five are ignored, `\*` is bad.
 ghost use Rattle.std.specs.Prelude.{◌≡◌, true, option_map};
 ghost use Rattle.imap_tokens.specs.Flags.{no_flags, unslashed, flag_added, token_added, flags_from, flags_in, bare_from};
 

@@ -1,4 +1,7 @@
 //! The tokens of a command's arguments.
+//!
+//! A quoted string may hold bytes above 126 and control bytes other than NUL, CR and LF; an atom may not. An astring that is an
+//! atom may hold `]`.
 ghost use Rattle.std.specs.Prelude.{◌≡◌, ◌∷◌, [], ◌++◌, drop, IfOk, OnOk, option_map, if◌then◌else◌};
 ghost use Rattle.imap_tokens.specs.Tokens.{is_word_byte, is_quoted_byte, started, with_byte, tokens_in, mark_byte, is_space, is_open, is_close, word_of, string_of, pattern_of, quoted_of, literal_of, with_first, tokens_of};
 ghost use Rattle.imap_tokens.specs.Tokens as spec;

@@ -1,4 +1,8 @@
 //! Words, atoms and numbers.
+//!
+//! A number from 1 on (RFC 3501, section 9: nz-number), as in a set or of a part's octets, has no leading zero. One from 0 on
+//! (number: one or more digits), as the place of a part, LARGER and SMALLER, may begin with any number of zeros. Both are at most
+//! 4294967295.
 ghost use Rattle.std.specs.Prelude.{◌≡◌, true, min, option_map};
 ghost use Rattle.std.specs.Char.{is_ascii_digit};
 ghost use Rattle.std.specs.List.{list_all};

@@ -1,4 +1,13 @@
 //! What the store tells of a mailbox.
+//!
+//! A mailbox without a stamp has stamp 0, which never comes about.
+//!
+//! `status_facts`, `select_facts` and `ImapSession::done` ask that the stamps rise by user and name, besides that the store is
+//! valid: a mailbox's stamp is found by halves. Those of a desk do, since they name its mailboxes, which rise.
+//!
+//! `status_facts` counts the unseen messages only where UNSEEN is asked, and `select_facts` only looks for the first of them.
+//! What was not asked for is none. What each promises is that the answer, STATUS's line or SELECT's lines, is that of all facts
+//! (`facts_at`).
 ghost use Rattle.std.specs.Prelude.{◌≡◌, ◌+◌, Bool, true, option_map, unwrap_or, count_by, position, if◌then◌else◌, IfOk, IsTrue};
 ghost use Rattle.imap_text.specs.Answers.{select_lines, status_line};
 ghost use Rattle.verb_core.specs.Boxes.{box_cmp, box_of, is_rising, next_at, row_at};

@@ -1,4 +1,10 @@
 //! Mailboxes as commands name them, and accounts.
+//!
+//! A user's name of LOGIN ignores case, the password does not.
+//!
+//! CREATE's one `/` at the end is taken off before anything else is looked at. `inbox/` is INBOX and so is fixed, and 200 bytes
+//! and a `/` are a name. `a//` is `a/`, which no new mailbox can have, and `/` alone is no name. The target of a RENAME keeps its
+//! `/` and is refused; elsewhere no mailbox has such a name.
 ghost use Rattle.std.specs.Prelude.{◌≡◌, ◌≤◌, ◌++◌, ℕ, List, length, nat_eq, codes, if◌then◌else◌, IfOk, Err};
 ghost use Rattle.std.specs.List.{ends_with, position_or_len};
 ghost use Rattle.undo_base.specs.Name.{Reads};

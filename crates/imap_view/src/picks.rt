@@ -1,4 +1,8 @@
 //! The places of the messages whose UIDs a set names, found by halves in the view itself.
+//!
+//! The messages of a set are found in the view itself. Sequence numbers are places (`pick_numbers` of imap_stream is given how
+//! many messages there are, and no UIDs), and a range of UIDs is two searches by halves. `pick` takes a list of UIDs for whoever
+//! has one; that they rise is asked by UID alone.
 ghost use Rattle.std.specs.Prelude.{◌≡◌, ◌+◌, ◌≤◌, true, length, slice_index, IfOk};
 ghost use Rattle.imap_stream.specs.Sets.{greatest_of, number_at, picked};
 ghost use Rattle.imap_stream.specs.Spans.{AreWithin, IsBelow, IsSpanOf, IsRangeSpan, SpansSet};

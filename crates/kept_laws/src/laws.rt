@@ -1,4 +1,7 @@
 //! Laws of what a journal's records leave. These functions do nothing: their contracts are the laws.
+//!
+//! What a cycle shows anew is in the ranges of a Kept. Its keys are of its deed or of entries, its names are of mailboxes, and a
+//! count that a cycle changes is less than the one before, or none.
 ghost use Rattle.std.specs.Prelude.{◌≡◌, ℕ, List, Some};
 ghost use Rattle.std.specs.List.{AllByRecursion};
 ghost use Rattle.verb_core.specs.declared.item.Item.{Item};

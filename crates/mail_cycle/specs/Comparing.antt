@@ -1,6 +1,10 @@
 -- A repair as it is worked out, by what came of performing the repaired items, from a store to which the first of them led. The
 -- items are as they were read, so texts of deliveries may be others. Over the repaired items themselves, from the base on, it is
 -- the repair.
+--
+-- What a cycle leaves is said over the items as they were read (`reworked_with`), and over the repaired ones (`cycled_at` of
+-- cycle_rules) where what is read is what was stored. On a disk that is not honest the former alone holds, and it is enough to go
+-- on.
 use Rattle.std.specs.Prelude.{ℕ, ◌+◌, ◌-◌, List, ◌++◌, drop, length}
 use Rattle.verb_core.specs.declared.item.Item.{Item}
 use Rattle.verb_core.specs.declared.item.Shown.{Shown}

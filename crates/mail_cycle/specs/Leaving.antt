@@ -1,4 +1,12 @@
 -- What a repair leaves in memory, and what holds of it.
+--
+-- What was made of a store that is not the one to which the first items led is said too (`IsMadeFrom`). The items were performed
+-- on it, and all parts are by that. Of a lying disk no more is claimed: neither the mail nor the report, the UIDs or the bound on
+-- the steps, but that the desk goes on safely.
+--
+-- The items before the beginning stay where they are. What a cycle leaves (`Rewound`) has how many they are (`from`) and the
+-- items behind them, and `items_left` says which timeline that is over the one before. So on a disk that is not honest the front
+-- of what is kept is what was kept, and no copy.
 use Rattle.std.specs.Prelude.{◌≡◌, ℕ, ◌<◌, ◌≤◌, ◌++◌, List, length, map, take}
 use Rattle.std.specs.List.{AllByRecursion}
 use Rattle.undo_base.specs.declared.limits.TheConstants.{LAST_NUMBER}

@@ -1,5 +1,10 @@
 -- What an IMAP client may rely on that keeps mail by UID (RFC 3501, section 2.3.1.1): what lasts from one moment of a store to a
 -- later one.
+--
+-- `UidsLast` speaks of stamps below the earlier next number only: a stamp at or above it was given later, and nothing was known
+-- of it.
+--
+-- A message as a client knows it has its key beside its text, so that two messages of one text are not taken for one.
 use Rattle.std.specs.Prelude.{◌≡◌, ℕ, ◌<◌, ◌≤◌, true, List, Some}
 use Rattle.verb_core.specs.declared.mailbox.Body.{Body}
 use Rattle.verb_core.specs.declared.mailbox.BoxId.{BoxId}

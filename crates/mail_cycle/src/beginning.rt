@@ -1,4 +1,6 @@
 //! Where a cycle begins to perform.
+//!
+//! What a cycle in memory begins with has no marks and is not deep: what is said of it holds for any.
 ghost use Rattle.std.specs.Prelude.{◌≡◌, IfOk};
 ghost use Rattle.verb_core.specs.Store.{IsValid};
 

@@ -1,4 +1,8 @@
 //! What is due to be performed again.
+//!
+//! A place behind more items than 32 bits count would be told as want of memory; numbers end long before.
+//!
+//! Want of memory is told of a cycle only where one is due.
 ghost use Rattle.std.specs.Prelude.{◌≡◌, ℕ, ◌+◌, ◌++◌, ◌≤◌, length, nat_le, IfErr, IfOk, IsErrOf, IsTrue, OnErr, OnOk, Some};
 ghost use Rattle.verb_core.specs.Items.{IsTimeline};
 ghost use Rattle.repair_desk.specs.Repairs.{are_known, is_among};

@@ -1,4 +1,6 @@
 //! Notices, as items that are performed last.
+//!
+//! The items of notices have rev 0, no user, and show nothing.
 ghost use Rattle.std.specs.Prelude.{◌≡◌, ◌+◌, ◌≤◌, length, IfOk};
 ghost use Rattle.cycle_rules.specs.Cycles.{notice_item as item_of, notice_items};
 

@@ -1,4 +1,6 @@
 //! What is told of a cycle.
+//!
+//! The mailboxes of the report are those that have the cycle's number as their stamp: no stamp before it can have that number.
 ghost use Rattle.std.specs.Prelude.{◌≡◌, IfOk};
 ghost use Rattle.repair_desk.specs.Repairs.{numbers_of as numbers_in};
 ghost use Rattle.cycle_rules.specs.Cycles.{renewed_by as renewed_in};

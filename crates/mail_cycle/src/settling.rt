@@ -1,4 +1,8 @@
 //! The end of a repair: what replayed items show is compared with what users were shown, users are told, and all is put together.
+//!
+//! The front of a timeline, through the point, is performed and its answers are not kept: nothing compares them. `settle` takes
+//! the repaired items behind the beginning and what was replayed as equations, so that any other rewind or replay can stand
+//! before it.
 ghost use Rattle.std.specs.Prelude.{◌≡◌, ◌+◌, ◌-◌, ◌≤◌, ◌++◌, drop, length, IfOk, OnErr, OnOk};
 ghost use Rattle.std.specs.List.{AllByRecursion};
 ghost use Rattle.verb_core.specs.Items.{IsWellFormed};

@@ -1,4 +1,7 @@
 //! What is counted of a desk, and what is listed of its timeline.
+//!
+//! `counts` goes through the timeline and the names of mailboxes. More messages than 64 bits hold are told as the most that they
+//! hold.
 ghost use Rattle.std.specs.Prelude.{◌≡◌, ℕ, ◌≤◌, ◌∷◌, [], ◌++◌, map, min, length, sum_by, count_by, IfOk, OnOk, take, drop};
 ghost use Rattle.verb_core.specs.declared.item.Item.{Item as TheItem};
 ghost use Rattle.verb_core.specs.declared.mailbox.BoxId.{BoxId as TheBoxId};

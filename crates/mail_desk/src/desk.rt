@@ -1,4 +1,10 @@
 //! The desk, and what it tells of itself.
+//!
+//! Each body that an entry of the store names has a text in the timeline or with the base: this is part of what every desk keeps,
+//! and `stands` tells it.
+//!
+//! `Desk::stands` says of a desk that it is sound where its store is what its items leave. That UIDs last over an ask, an act and
+//! a snapshot needs no such premise.
 ghost use Rattle.std.specs.Prelude.{◌≡◌, ℕ, ◌<◌, ◌≤◌, ◌-◌, [], ◌++◌, map, option_copied, IsTrue, IfOk, OnOk};
 ghost use Rattle.std.specs.List.{AllByRecursion, list_all};
 ghost use Rattle.verb_core.specs.declared.item.Item.{Item as TheItem};

@@ -1,4 +1,7 @@
 //! Where the snapshots in the journal lie from which a cycle can begin.
+//!
+//! A snapshot can serve as long as no later cycle had a point before it. Two snapshots behind the same item have one mark, the
+//! later one's place; `taken` counts both, so that nobody can seal more than the machine says.
 ghost use Rattle.std.specs.Prelude.{◌≡◌, ℕ, ◌<◌, length, map, OnOk};
 ghost use Rattle.seal_log.specs.declared.place.Place.{Place as ThePlace};
 ghost use Rattle.shelf.specs.Marks.{MarksRise, marks_at_or_before as not_behind_of, with_mark};

@@ -1,4 +1,7 @@
 //! Items in order, found by their numbers.
+//!
+//! The numbers of the timeline are distinct and below the next one. After a cycle that brings acts in they do not rise, so the
+//! item of a number is found by an index beside the timeline.
 ghost use Rattle.std.specs.Prelude.{◌≡◌, ◌<◌, ◌≤◌, ℕ, [], ◌∷◌, ◌++◌, ◌+◌, ◌-◌, drop, filter, length, nat_lt, take, OnOk, option_copied, vec_len, vec_capacity};
 ghost use Rattle.std.specs.List.{AllByRecursion};
 ghost use Rattle.std.specs.List.Sorted.{IsNonDecreasingBy, IsPermutation};

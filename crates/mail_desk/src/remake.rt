@@ -1,4 +1,11 @@
 //! What a repair leaves: made ready, and put in place.
+//!
+//! A cycle's outcome brings the notes of its texts on a shelf of its own. The desk's shelf takes them and keeps its marks, so
+//! that putting the outcome in place takes no memory.
+//!
+//! `Desk::replace` cuts the items, and their rows in the index of numbers, behind `from` and puts the new ones there, in room
+//! that `Desk::remake` made before the record was sealed. The index is put in order again, which is one pass where it is in order
+//! already. Where the texts lie is listed anew before that, for all items.
 ghost use Rattle.std.specs.Prelude.{◌≡◌, ◌+◌, ◌-◌, ◌<◌, ◌≤◌, [], length, if◌then◌else◌, Some, None, IfOk, OnOk, Ok, vec_len, vec_capacity};
 ghost use Rattle.std.specs.List.{AllByRecursion};
 ghost use Rattle.verb_core.specs.declared.mailbox.Body.{Body as TheBody};

@@ -1,4 +1,9 @@
 //! The stamps: rows in order that are found by halves, and changed where they lie.
+//!
+//! The stamps are changed where they lie. Each place is found by halves, and a stamp that comes or goes shifts those behind it,
+//! of later users too, within one block; of these no name is read or copied. The shift is forced by the one list in the order of
+//! users and names that the sessions read (`Stamps`). More than four changes (a RENAME of a tree) are made while the stamps of
+//! later users lie aside, so that each shifts the user's own alone.
 ghost use Rattle.std.specs.Prelude.{◌≡◌, ◌+◌, ◌<◌, ◌≤◌, ◌∷◌, ◌++◌, [], true, insert, length, option_to_list, reverse, take_while, vec_len, vec_capacity, IfSome, IsTrue, OnOk, if◌then◌else◌};
 ghost use Rattle.std.specs.List.{list_all};
 ghost use Rattle.std.specs.Ordering.{eq_by_cmp};

@@ -1,4 +1,18 @@
 -- How a turn may go otherwise: one table, with what licenses each hindrance and what follows.
+--
+-- On a disk that is not honest a turn that reads texts may be given others (`Misread`, `Misled`). A console's turn still ends,
+-- seals and closes as the clear turn; only what it says, and for a cycle what is kept, is free. Whether a turn is such a one is
+-- decided by comparing what came with what is due, so it is told only where they differ.
+--
+-- A hindrance that a turn does not meet hinders nothing: want of memory for texts, where none are wanted, leaves the turn as it
+-- is. So one table serves all sessions of mail programs.
+--
+-- Want of memory in a write is a hindrance of its own (`Unwritten`, of a snapshot `IsOutOfMemory`), since the disk counts it, and
+-- any other want nobody does. What is hindered so may be an ask that would be refused: what was due to an ask that found no
+-- memory the desk does not say.
+--
+-- A QUIT of marked messages is two turns, and the hindrance of the second is part of the first's (`Halfway`): the others of the
+-- table speak of the first ask. Where nothing is said of the second it goes as it should.
 use Rattle.std.specs.Prelude.{◌≡◌, ℕ, Bool, true, false, if◌then◌else◌, List, [], ◌∷◌, Result, Ok, Err}
 use Rattle.std.specs.List.{list_any}
 use Rattle.seal_log.specs.declared.fault.ReadFault.{ReadFault}

@@ -1,4 +1,7 @@
 //! What a session asks of the desk, and the mailboxes that this takes away.
+//!
+//! The code reads from the ask which mailboxes it would take away, and takes the memory for that before it asks. They are proved
+//! to be those that are gone between the stores.
 ghost use Rattle.std.specs.Prelude.{◌≡◌, ◌↔◌, ℕ, ◌++◌, ◌∷◌, [], false, bytes_eq, filter, length, map, take, IsSome, IsTrue, OnErr, OnOk};
 ghost use Rattle.std.specs.List.{cons_option, list_all};
 ghost use Rattle.verb_core.specs.declared.mailbox.BoxId.{BoxId as TheBoxId};

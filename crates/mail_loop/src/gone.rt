@@ -1,4 +1,8 @@
 //! The mailboxes that turns took away, whose other sessions are told.
+//!
+//! Where an item took a mailbox away, or the store was rewound or upgraded, each other open connection is looked at once, in
+//! order of their numbers. What they are told goes among the strings of the event by rising number. Where no memory is found for
+//! the list of strings, serving ends, as for the loop's other tables. A RENAME of INBOX tells nobody.
 ghost use Rattle.std.specs.Prelude.{◌≡◌, ◌↔◌, ◌++◌, ◌∷◌, [], length, take, IsTrue, OnErr, OnOk};
 
 use std::alloc::Global;

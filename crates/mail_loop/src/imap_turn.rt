@@ -1,4 +1,9 @@
 //! The turns of an IMAP client: a command, a literal mark or a bad line of its stream.
+//!
+//! Where no memory is found for reading a command nothing is said and the connection closes.
+//!
+//! A literal mark, a bad line and lines that are no command are answered, or their connection is closed: of want of memory only a
+//! command that was read is told.
 ghost use Rattle.std.specs.Prelude.{◌≡◌, ℕ, Ok, Err, true, false};
 ghost use Rattle.verb_core.specs.declared.conf.House.{House as TheHouse};
 ghost use Rattle.verb_core.specs.Store.{MailStore};

@@ -1,4 +1,9 @@
 //! Whose maildrops are in use: one session of a user fetches at a time (RFC 1939, section 4).
+//!
+//! A POP3 client's session is given the users of the other connections as they stand when its event comes. Events are served one
+//! at a time, and none changes another connection but by closing it at its end: so that is as they stand at the turn. They are
+//! looked for once an event, and only where a POP3 client asks. Where no memory is found for them its connection is closed
+//! without an answer, as for its bytes.
 ghost use Rattle.std.specs.Prelude.{◌≡◌, IfOk, Some};
 ghost use Rattle.mail_loop.specs.Machine.{seat_at};
 ghost use Rattle.mail_loop.specs.PopTurn.{in_use, user_beside};

@@ -1,4 +1,7 @@
 //! The turns of a POP3 client: a line of its stream.
+//!
+//! Of want of memory for a line of a POP3 client it is told `-ERR No memory.`, and nothing changes: also of QUIT, which has not
+//! been taken then.
 ghost use Rattle.std.specs.Prelude.{◌≡◌, false, true};
 ghost use Rattle.pop_session.specs.Dialog.{AsksAsUser, IsNext, is_at_home, is_free};
 ghost use Rattle.mail_loop.specs.Asked.{HaveSealed};

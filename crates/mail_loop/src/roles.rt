@@ -1,4 +1,7 @@
 //! What each role is: how its client is greeted, and whether a rewind or an upgrade of the store closes its connections.
+//!
+//! An upgrade is told to IMAP clients alone, logged in or not. A POP3 client goes on: it sees INBOX alone, which an upgrade
+//! leaves as it was.
 ghost use Rattle.std.specs.Prelude.{◌≡◌, IfErr, IfOk, IsSome, option_map};
 ghost use Rattle.mail_loop.specs.Roles.{row_of};
 ghost use Rattle.mail_loop.specs.Stands.{said_of};

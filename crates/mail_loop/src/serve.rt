@@ -1,4 +1,23 @@
 //! The serving loop.
+//!
+//! The machine keeps the house, the opening configuration, the timeline, the stamps, the next number and a store. In each state
+//! that a journal's records leave the store is what the timeline leaves (`IsRun`). The desk of the code holds the same parts. Its
+//! invariant says that the house is sound, that the store is valid and that the next number is at most 4,194,304. So
+//! `serve_events` asks of its desk only that it is open, and says nothing more of the number.
+//!
+//! A greeting for which no memory is found is left out, as any string is, and its connection is closed; serving goes on. A table
+//! for which none is found, also that of an event's strings, ends serving with want of memory.
+//!
+//! The link's count of missed strings rises by at least as many as are missed; where none was missed it is as it was. A failed
+//! `next` is the last thing that the link did when serving answers `Link`.
+//!
+//! A snapshot that is due is taken after each event, also one without strings, the one in which a console asked to stop, and the
+//! end of the events. There it may still be due where none was sealed after the last event for want of memory. Or a store was
+//! opened behind which more than 1,023 items stand, and nothing came. Where memory is wanted for an event's bytes, strings or
+//! closes serving ends, and no snapshot is taken.
+//!
+//! A console's stop ends serving after its event with Ok, before any later event; where memory is wanted for that event's strings
+//! the answer is want of memory. After a stop no step follows (`NoStop`).
 ghost use Rattle.std.specs.Prelude.{◌≡◌, ◌≤◌, ◌∷◌, ℕ, Bool, List, Ok, Err, IfOk, IfErr, OnErr, false, [], length};
 ghost use Rattle.std.specs.List.{list_any};
 ghost use Rattle.console_head.specs.Request.{Stage};

@@ -1,4 +1,7 @@
 //! The turns of an SMTP client: a line of its stream.
+//!
+//! A session whose connection closes while the outcome of a delivery is due is put back to a new one: between two lines no
+//! outcome is ever due. The machine forgets that session in any case.
 ghost use Rattle.std.specs.Prelude.{◌≡◌, ◌≤◌, ℕ, false, true};
 ghost use Rattle.smtp_lines.specs.declared.line.SmtpLine.{SmtpLine as TheLine};
 ghost use Rattle.store_kept.specs.Kept.{Kept};

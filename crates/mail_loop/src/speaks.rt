@@ -1,4 +1,7 @@
 //! A session, whatever it speaks: what the loop knows of it once it took a unit of its stream.
+//!
+//! A session may see the other connections: the machine hands them to each turn, and the clause of `hear` speaks of the tables in
+//! which the connection stands. The sessions there are make no use of that.
 ghost use Rattle.std.specs.Prelude.{◌≡◌, true, IfOk, IsTrue, Ok, OnErr};
 ghost use Rattle.verb_core.specs.declared.conf.House.{House as TheHouse};
 ghost use Rattle.verb_core.specs.Boxes.{is_rising};

@@ -1,5 +1,20 @@
 //! What follows in a turn once the session took a unit of its stream: what is said, the texts that are read for it, and what it asks
 //! of the desk.
+//!
+//! A read that fails ends what is read for, is told once, and is counted once by the disk, by the turn and by its step, whether
+//! it is told or not. Where an IMAP client's session finds no memory for it, the session is told once more, of want of memory.
+//! Where it finds none for that either, or the string of the event has none, the connection closes. A failed read in serving
+//! leaves status 0: its answer told it.
+//!
+//! A refusal for whose answer the session finds no memory is told again as want of memory, and an item for whose answer it finds
+//! none closes the connection. An answer for which the session has memory, but the string of the event has none, closes the
+//! connection as a memory text does.
+//!
+//! An answer that changes nothing in what is kept and finds no memory closes its connection, as the memory text does that finds
+//! none.
+//!
+//! The session is told of an outcome again, as of want of memory, only after a refusal (`is_refused`). After an item that is
+//! kept, and after a failed seal, the connection closes without that answer.
 ghost use Rattle.std.specs.Prelude.{◌≡◌, is_some, true, false, IfOk, IsTrue, OnErr};
 ghost use Rattle.std.specs.List.{list_all};
 ghost use Rattle.verb_core.specs.declared.conf.House.{House as TheHouse};

@@ -12,7 +12,7 @@ use Rattle.mail_proxy.specs.Headline.{IsServed}
 use Rattle.mail_proxy.specs.Promises.{HonestDisk}
 use Rattle.mail_proxy.specs.Texts.{End}
 
--- The words came to this: what was done and written, the disk that is left, what lasts where mail was served to the end, and the status, which comes for
+-- The words came to this: what was done and written, the disk that is left, and what lasts where mail was served to the end. The status comes for
 -- its cause and where it is due.
 pub record Runs {D : Type 0} (told : D → DiskTold) (words : List (List ℕ)) (disk left : D) (old : Outside) (text' : SourceTold) (link' : LinkTold) (out' : SinkTold) (status : ℕ) : Type 0 where
   pub end : End D

@@ -12,8 +12,8 @@ use Rattle.mail_proxy.specs.Promises.{HonestDisk, IsLasting, ServesDesk}
 use Rattle.mail_proxy.specs.Script.{last_line, status_of}
 use Rattle.mail_proxy.specs.Texts.{End}
 
--- How the events of a link were served over a desk: the machine's steps for those that came, what the link did, what is to be answered and written, and
--- what became of the desk.
+-- How the events of a link were served over a desk. These are the machine's steps for those that came, what the link did, what is to be answered and
+-- written, and what became of the desk.
 pub record ServesLink {D : Type 0} (told : D → DiskTold) (link link' : LinkTold) (first last : Lasting D) (status : ℕ) (output : List ℕ) : Type 0 where
   pub outcome : Result (Unit {0}) ServeFault
   pub notes : List LinkNote

@@ -1,4 +1,6 @@
 //! The command `audit`: whether the records of a store are true.
+//!
+//! An audit that can't perform a Cycle or Withdraw record, since a text could not be read, ends with status 5.
 ghost use Rattle.std.specs.Prelude.{None};
 ghost use Rattle.mail_proxy.specs.Auditing.{Audits, AuditsAt, LieThere, TellsAudit, TellsUnaudited};
 ghost use Rattle.mail_proxy.specs.Plans.{end_of, output_of};

@@ -1,4 +1,6 @@
 //! The command `check`: the counts of a store, and its digest.
+//!
+//! That `check` writes nothing is said of the images: opening begins with a sync, which adds none.
 ghost use Rattle.std.specs.Prelude.{◌≡◌, ◌++◌, IfOk, OnOk};
 ghost use Rattle.mail_proxy.specs.Check.{Checks, TellsCounts, check_text, count_line, counts_text};
 ghost use Rattle.mail_proxy.specs.Plans.{end_of, output_of};

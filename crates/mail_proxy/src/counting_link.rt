@@ -1,4 +1,7 @@
 //! A link in memory that can be asked how many of its calls found no memory.
+//!
+//! `play`, `script` and `grow` look at the count of their own link at the end, since `MemLink` shows none, and answer 8 in place
+//! of 0 where it rose. `serve` answers as serving ended: its link has told its user.
 ghost use Rattle.std.specs.Prelude.{◌≡◌, [], true, Some};
 ghost use Rattle.undo_outside.specs.Calls.{RoseOnce};
 ghost use Rattle.undo_outside.specs.Coming.{with_end};

@@ -1,4 +1,9 @@
 //! The command `cut`: a store whose past went into its base, as a new one.
+//!
+//! Where the first write of a cut's file fails no last line follows, as for every write that failed. Where a read fails before
+//! the first write the line of status 5 does.
+//!
+//! The point is looked up before the first byte.
 ghost use Rattle.std.specs.Prelude.{◌≡◌, ℕ, List, IsTrue};
 ghost use Rattle.std.specs.List.{AllByRecursion};
 ghost use Rattle.verb_bytes.specs.declared.journal.JournalRecord.TheVariants.{Kept};

@@ -1,4 +1,6 @@
 //! The events that the command `grow` serves.
+//!
+//! What `generate` gives is proved for each number of rounds, not from 3 to 100,000 alone: no other count comes from the words.
 ghost use Rattle.std.specs.Prelude.{◌≡◌, ◌++◌, ◌∷◌, [], IfOk, OnOk, codes, decimal};
 ghost use Rattle.undo_outside.specs.declared.event.What.TheVariants.{Bytes, Joined};
 ghost use Rattle.undo_outside.specs.declared.event.Role.TheVariants.{Http, Imap};

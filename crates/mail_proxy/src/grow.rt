@@ -1,4 +1,6 @@
 //! The command `grow`: generated events are served over a store in memory.
+//!
+//! `grow` never ends with 7: of 100,000 rounds there are 700,008 events, so the end comes.
 ghost use Rattle.std.specs.Prelude.{◌≡◌, false, IfOk};
 ghost use Rattle.mail_proxy.specs.Check.{TellsText};
 ghost use Rattle.mail_proxy.specs.Generated.{generated};

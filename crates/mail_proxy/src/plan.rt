@@ -1,4 +1,6 @@
 //! What is to be answered and written, and the writing of it.
+//!
+//! A transcript that is left out at status 5 or 7 is taken for want of memory; nothing counts what the allocator refused.
 ghost use Rattle.std.specs.Prelude.{◌≡◌, [], IfOk};
 ghost use Rattle.base_cut.specs.Writing.{WritesAll, Wrote};
 ghost use Rattle.mail_proxy.specs.Lines.{bad_line, damaged, false_record_at, is_nothing, line_text, no_memory};

@@ -1,4 +1,9 @@
 //! Serving the events of a script over a desk.
+//!
+//! Status 5 of `script` and `serve` after opening says that a write or a sync failed, counted from the disk as it was before
+//! `run`.
+//!
+//! A bad text is told before the store is touched.
 ghost use Rattle.std.specs.Prelude.{◌≡◌, false};
 ghost use Rattle.mail_proxy.specs.Lines.{line_text};
 ghost use Rattle.mail_proxy.specs.Plans.{output_of};

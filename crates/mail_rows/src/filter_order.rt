@@ -1,4 +1,9 @@
 //! Filters by rising name: the places of the first filters, in the order of their names, so that one is found by halves.
+//!
+//! Filters stand in the order in which they were set; their places by rising name stand beside them. What comes last is taken in
+//! when the next act of a filter is made ready, where memory may be wanting. What is dropped is taken out of both lists, with one
+//! pass over the places. Nothing is there before the first such act. A second filter of one name, which no act brings but a
+//! record might, ends the list of places at it, and then filters are found in one pass.
 ghost use Rattle.std.specs.Prelude.{◌≡◌, ◌≤◌, ◌<◌, length, take_while, map, filter, remove, slice_index_or};
 ghost use Rattle.mail_rows.specs.Confs.{RiseBy, IsOrder, comes_behind, has_other_id, id_at, is_ranked, lowered as brought_down};
 

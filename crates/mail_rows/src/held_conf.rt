@@ -1,4 +1,12 @@
 //! The configuration in force, and the change that is ready for it.
+//!
+//! A configuration in force keeps whether the local parts of its aliases are known to rise, as those of a configuration's text do
+//! and as acts leave them. One pass when a store is made finds it out, since a record may hold any list. Where they rise an act
+//! finds its alias by halves, and moves those behind it; elsewhere in one pass.
+//!
+//! Aliases that are set by falling or mixed names cost the square of their number: each is found by halves and moves those behind
+//! it, 48 octets each. The configuration is lent as one list in its order, to deliveries and to the console, so aliases can't
+//! stand in a tree. Smaller aliases in the model's crate would make it a tenth, and would be felt by all that reads one.
 ghost use Rattle.std.specs.Prelude.{◌≡◌, ◌<◌, [], None, Some, true, IfOk, OnOk, length, unwrap_or, vec_capacity};
 ghost use Rattle.verb_core.specs.declared.item.Deed.TheVariants.{Act as Acts};
 ghost use Rattle.verb_core.specs.Step.{conf_after};

@@ -1,4 +1,6 @@
 //! The inferiors of a mailbox among rows in order: they stand side by side, and are found by halves.
+//!
+//! They stand from the name with `/` on, though not next to the mailbox: `Work-x` stands between `Work` and `Work/x`.
 ghost use Rattle.std.specs.Prelude.{◌≡◌, ◌++◌, ◌∷◌, [], IsTrue, length, nat_lt};
 ghost use Rattle.std.specs.List.{list_any};
 ghost use Rattle.std.specs.Ordering.{is_lt, nat_cmp};

@@ -1,4 +1,7 @@
 //! Mailboxes found among rows by user and name, copies of rows, and a user's names.
+//!
+//! `live`, deliveries and each effect find a mailbox by halving the rows (`place_of`). All rows are looked through by LIST, by
+//! the count of a user's mailboxes where more are asked for, and for a digest.
 ghost use Rattle.std.specs.Prelude.{◌≡◌, ◌++◌, ◌∷◌, [], IsTrue, IfOk, OnOk, option_copied, if◌then◌else◌};
 ghost use Rattle.verb_core.specs.Boxes.{box_of, has_row, is_rising, row_at, names_of, rows_of, same_user};
 ghost use Rattle.mail_rows.specs.Inferiors.{is_earlier, rows_from};

@@ -1,4 +1,9 @@
 //! Names against the patterns of LIST (RFC 3501, section 6.3.8), in time that grows as pattern times name at most.
+//!
+//! A pattern is matched from its last byte on, each byte passing once over the ends of the name. Once for all names it is
+//! shortened: of wildcards side by side one stays, `*` where one of them is. A shortened pattern with more other bytes than the
+//! name has matches nothing, so a name of 200 bytes costs some 80,000 steps at most, whatever the pattern's length. Going back to
+//! the last wildcard, as is usual, would be wrong where `*` and `%` are mixed.
 ghost use Rattle.std.specs.Prelude.{◌≡◌, ◌≤◌, ◌++◌, ◌∷◌, ◌&&◌, ◌==◌, [], List, IsTrue, IfOk, OnOk, drop, filter, length, map, not, true, false, if◌then◌else◌};
 ghost use Rattle.std.specs.List.{cons_option, position_or_len};
 ghost use Rattle.verb_core.specs.Boxes.{is_rising, names_of};

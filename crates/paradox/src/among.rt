@@ -1,4 +1,9 @@
 //! Looking for the members of one list in another, with no memory taken.
+//!
+//! `broken` takes no memory, so it looks for each shown key in what is there now behind the place where the one before was found,
+//! and then from the front. What an item shows stands in the order of its keys and a LIST in byte order, so this is one walk
+//! through both lists. Only two lists of a DELETE's moved keys in orders that have nothing in common could take the product of
+//! their lengths.
 ghost use Rattle.std.specs.Prelude.{◌≡◌, Bool, ◌≤◌, ◌<◌, length, position, is_some, IfSome};
 ghost use Rattle.std.specs.List.{list_any};
 ghost use Rattle.paradox.specs.Answers as spec;

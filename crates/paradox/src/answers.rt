@@ -1,4 +1,11 @@
 //! Whether what was shown still holds.
+//!
+//! `broken` is told for any two answers. Of two that are not of one form it says that nothing is broken; a desk never asks that.
+//!
+//! Missing comes before Changed, and before Redirected, over the whole list: a FETCH that lost one message and has another
+//! changed is told as Missing.
+//!
+//! Keys that a DELETE or EXPUNGE leaves or moves now are compared with those shown: fewer are no break.
 ghost use Rattle.std.specs.Prelude.{◌≡◌, Bool, bytes_eq};
 ghost use Rattle.verb_core.specs.Mailboxes.{same_key};
 ghost use Rattle.verb_core.specs.declared.item.Shown.TheVariants as shows;

@@ -1,4 +1,14 @@
 //! Notices.
+//!
+//! A line of a notice names the mailbox that the item names first: the source of COPY and RENAME.
+//!
+//! A notice is told of a house with no domain, or of a user whom it has not, with no bytes in that place. No configuration has
+//! such a house, and no cycle such a user.
+//!
+//! The crate gives, beside `broken` and `notice`, whom a cycle sends a notice (`users_told`) and all notices of a cycle
+//! (`notices`). So that it is one for each such user, in user order, is said once.
+//!
+//! A notice of more than 4,294,967,295 bytes finds no memory.
 ghost use Rattle.std.specs.Prelude.{◌≡◌, ◌≤◌, [], ◌∷◌, ◌++◌, IsTrue, IfOk, OnOk, decimal, get_or, if◌then◌else◌};
 ghost use Rattle.verb_core.specs.Boxes.{same_user};
 ghost use Rattle.verb_core.specs.Store.{is_house};

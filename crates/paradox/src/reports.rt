@@ -1,4 +1,9 @@
 //! What a cycle reports.
+//!
+//! `BrokenItem::of` gives an item as it is told, and none for what no user did: deliveries, acts and notices are never told of,
+//! though DELIVER is a verb.
+//!
+//! What a report says of renewed mailboxes is a list of stamps, as the desk keeps them.
 ghost use Rattle.std.specs.Prelude.{◌≡◌, IfOk, option_copied};
 
 use crate::{BrokenList, Reason, Renewals, Verb};

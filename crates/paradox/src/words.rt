@@ -1,4 +1,9 @@
 //! Verbs and reasons.
+//!
+//! A deed's word, mailbox and text are told by verb_core alone. The thirteen verbs of users are an enum, since a report names
+//! one, and a law says that the words agree.
+//!
+//! `Verb::word` and `Reason::text` are public, as is `user_name` of letters, since the console's report says the same words.
 ghost use Rattle.std.specs.Prelude.{◌≡◌};
 ghost use Rattle.paradox.specs.Words.{verb_word, reason_text, verb_of};
 

@@ -1,4 +1,15 @@
 //! USER and PASS (RFC 1939, section 7).
+//!
+//! User names ignore case and passwords do not, as in IMAP. USER's argument is one byte or more and no space. PASS's is the rest
+//! of the line, so a password may begin with a space and have spaces in it, and none can end in one. Spaces at the end of a line
+//! do not count.
+//!
+//! A line that is too long, unknown or has a bad argument is no command: `PASS` alone leaves the name of USER in force, `QUIT
+//! now` does not close. Nothing but a failed PASS takes the name away; another USER replaces it. A PASS whose line found no
+//! memory changed nothing; one whose outcome is want of memory failed, as any refusal of the store.
+//!
+//! PASS over more than 65,536 messages is answered `Too many messages.` at once and asks nothing of the store, which would refuse
+//! it so before anything else. So no session ever knows more than 65,536 messages.
 ghost use Rattle.std.specs.Prelude.{◌≡◌, false, IfOk, OnErr, IsTrue, Some, option_copied, unwrap_or};
 ghost use Rattle.std.specs.List.{list_any};
 ghost use Rattle.shelf.specs.Notes.{size_of};

@@ -1,4 +1,7 @@
 //! Maildrops: the messages that a session knows, and how they are listed.
+//!
+//! Sizes, UIDs and the stamp are those of PASS; the text is that of the message as it lies in INBOX now. STAT, LIST and UIDL go
+//! on telling messages that are gone, DELE marks them, and QUIT's STORE names them.
 ghost use Rattle.std.specs.Prelude.{◌≡◌, ◌++◌, ◌≤◌, false, IfOk, OnOk, flat_map, length};
 ghost use Rattle.std.specs.List.{enumerate_from};
 ghost use Rattle.shelf.specs.Notes.{size_of};

@@ -1,4 +1,7 @@
 //! A text as it is sent.
+//!
+//! An empty text is sent as one empty line. Lines end at CRLF alone: a dot behind a bare CR or LF is not doubled. TOP of a text
+//! without an empty line tells all of it. RETR's octets are those that are stored.
 ghost use Rattle.std.specs.Prelude.{◌≡◌, ◌≤◌, ◌<◌, ◌++◌, ◌∷◌, [], drop, flat_map, length, take, IfOk, OnOk};
 ghost use Rattle.header_fields.specs.Lines.{is_end, joined, lines_of};
 ghost use Rattle.std.specs.Prelude.{codes};

@@ -1,4 +1,6 @@
 //! What was awaited: a text, or the outcome of what was asked of the store.
+//!
+//! A refusal that a FETCH, STORE or EXPUNGE in INBOX can't meet is told as want of memory.
 ghost use Rattle.std.specs.Prelude.{◌≡◌, ◌∷◌, [], true, false, IfOk, OnErr};
 ghost use Rattle.pop_session.specs.Answer as words;
 ghost use Rattle.pop_session.specs.Sending as sending;

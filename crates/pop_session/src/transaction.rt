@@ -1,4 +1,7 @@
 //! The commands of a user who is logged in (RFC 1939, sections 5 and 7).
+//!
+//! RETR and TOP of a message whose key is not in INBOX any more are answered `Message is gone.` at once: nothing is read or
+//! asked, and no number drawn. The store's own refusals `Gone` and `TooMany` are told in the same words.
 ghost use Rattle.std.specs.Prelude.{◌≡◌, ◌≤◌, [], length, IfOk, OnErr, OnOk, Option, Some, option_copied, option_map};
 ghost use Rattle.undo_base.specs.declared.keys.User.{User as TheUser};
 ghost use Rattle.verb_core.specs.declared.mailbox.Entry.{Entry as TheEntry};

@@ -1,4 +1,7 @@
 //! QUIT (RFC 1939, sections 4 and 6).
+//!
+//! QUIT's STORE and EXPUNGE name the keys in the order of the messages. The keys of the EXPUNGE are found when the STORE is
+//! asked, so that asking it takes no memory. After its last answer a session is as a new one: nobody is logged in.
 ghost use Rattle.std.specs.Prelude.{◌≡◌, IfOk, OnErr};
 ghost use Rattle.pop_session.specs.Dialog.{opening, took};
 ghost use Rattle.pop_session.specs.Dialog as spec;

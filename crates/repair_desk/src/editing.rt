@@ -1,4 +1,14 @@
 //! The timeline after the repairs that are asked for.
+//!
+//! The timeline comes as it is kept in memory: stored items, which contracts see as whole items. A repair copies no text but that
+//! of an act that comes in, for a moment.
+//!
+//! `edit` asks nothing of the timeline. Of a list that has a number twice, the first item of the point's number is the point, and
+//! each later item of a number is dropped or gets its text.
+//!
+//! `kept` is 32 bits wide: more later items than these hold find no memory. A timeline's distinct numbers do not allow so many.
+//!
+//! `edit_at` takes the place of a point that was found before, so that Point and Numbers are refused before anything is copied.
 ghost use Rattle.std.specs.Prelude.{◌≡◌, ◌+◌, ◌++◌, ◌≤◌, ◌^◌, drop, length, map, Some, IfOk, IfErr, IsErr};
 ghost use Rattle.repair_desk.specs.Refusing.{IsRefusalOf};
 ghost use Rattle.repair_desk.specs.Repairs.{edited as edits, edited_at, edited_behind, inserted, kept as kept_of, repaired, unmatched as unmatched_of};

@@ -1,4 +1,11 @@
 //! Items, with another text.
+//!
+//! A notice has a text, but it can't be replaced.
+//!
+//! A replaced text takes the whole place of the stored body, trace lines included; it may be empty. It is not looked at as mail:
+//! filters look at it when its delivery is done again.
+//!
+//! A notice can be dropped, and be a point. Dropping one tells nobody, unless somebody had read it.
 ghost use Rattle.std.specs.Prelude.{◌≡◌, ◌++◌, Some, IfOk, OnOk};
 ghost use Rattle.repair_desk.specs.Repairs.{repaired as is_repaired, replaced_by, takes_text as has_text};
 

@@ -1,4 +1,6 @@
 //! The later items, those that stay and those that go.
+//!
+//! Acts and notices can be dropped; nobody made them, so they are not withdrawn.
 ghost use Rattle.std.specs.Prelude.{◌≡◌, ◌++◌, map, IfOk, OnOk};
 ghost use Rattle.repair_desk.specs.Repairs.{kept, repaired as is_repaired, withdrawn as withdrawn_of};
 

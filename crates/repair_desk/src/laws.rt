@@ -1,5 +1,8 @@
 //! What holds of every repaired timeline, of stamps after a cycle, and of mailboxes after an item. These functions do nothing:
 //! their contracts are laws of the definitions.
+//!
+//! The step law (an item extends each mailbox that stays) is stated of valid stores: on one where a mailbox lacks a superior a
+//! RENAME could move a mailbox onto another.
 ghost use Rattle.std.specs.Prelude.{◌≡◌, ◌≢◌, ℕ, ◌+◌, ◌<◌, ◌≤◌, ◌==◌, true, not, ◌&&◌, List, map, take, length, IsTrue, Some};
 ghost use Rattle.std.specs.List.{AllByRecursion, list_any};
 ghost use Rattle.verb_core.specs.declared.conf.House.{House};

@@ -1,4 +1,7 @@
 //! Where a timeline is cut.
+//!
+//! A point is looked for in the timeline as it is. The numbers of cycles, of dropped items and of what an earlier cycle took out
+//! are no points; those of notices and of acts that came in are.
 ghost use Rattle.std.specs.Prelude.{◌≡◌, ◌≤◌, ◌==◌, length, IfSome};
 ghost use Rattle.std.specs.List.{position_from};
 ghost use Rattle.verb_core.specs.declared.item.Item.{Item as TheItem};

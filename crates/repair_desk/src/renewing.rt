@@ -1,4 +1,10 @@
 //! The stamps after a cycle.
+//!
+//! `renew` asks no more than that the stamps name the mailboxes of the store before the cycle. Where the UIDs of a mailbox rise,
+//! as those of every valid store do, an old entry is found by its UID, by halves; else it is looked for from the first. The rows
+//! of both stores are read where they lie: none is copied.
+//!
+//! Whether a mailbox extends another is a test that computes; that it goes on from one cycle to the next is a law.
 ghost use Rattle.std.specs.Prelude.{◌≡◌, ℕ, map, IfOk, IsTrue};
 ghost use Rattle.std.specs.List.{list_any};
 ghost use Rattle.verb_core.specs.declared.mailbox.BoxId.{BoxId as TheBoxId};

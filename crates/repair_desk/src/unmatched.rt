@@ -1,4 +1,11 @@
 //! The asked numbers that did nothing.
+//!
+//! Whether an asked number did something is decided by the number: where it did, none of its askings is unmatched, and where it
+//! did not, each of them is. So the first of two texts for one item, which the second outdoes, is not unmatched, and a number
+//! that is asked twice in vain stands twice.
+//!
+//! Two texts for one item, of which the last counts, both did something: neither is unmatched. A number asked twice to be dropped
+//! is matched twice, or unmatched twice.
 ghost use Rattle.std.specs.Prelude.{◌≡◌, ℕ, List, ◌++◌, map, IfOk, OnOk};
 ghost use Rattle.repair_desk.specs.Repairs.{dropped, is_among, missing, numbers_of, replaced, unmatched as unmatched_of};
 

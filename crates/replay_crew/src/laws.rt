@@ -1,4 +1,7 @@
 //! What holds of each order. These functions do nothing: their contracts are laws of the definitions.
+//!
+//! Aims in an order are those that each item finds in the timeline, as a replay by levels would have them: none is looked for
+//! anew.
 ghost use Rattle.std.specs.Prelude.{◌≡◌, List, ◌∷◌, IsTrue};
 ghost use Rattle.std.specs.List.{enumerate_from, list_all};
 ghost use Rattle.std.specs.List.Sorted.{IsPermutation};

@@ -1,4 +1,7 @@
 //! The plan of items.
+//!
+//! The level of an item is told as the least number from 1 that passes, up to one behind the number of earlier items, which
+//! always passes. A plan of more than 4,294,967,294 items finds no memory, since its places could not be numbers of 32 bits.
 ghost use Rattle.std.specs.Prelude.{◌≡◌, ◌≤◌, ◌<◌, ◌+◌, length, IfOk, OnOk};
 ghost use Rattle.replay_plan.specs.Placing.{levels_by_item, levels_of};
 ghost use Rattle.replay_plan.specs.Slots.{bound, Leads, SameTaken, IsUntaken};

@@ -1,4 +1,12 @@
 //! The levels that are taken at a place, and the next that is not.
+//!
+//! A level is noted as taken at the place of a touch, and not at its user too. Two items that meet only by an Every do not
+//! commute, so the later one has a higher level by the last levels alone. So a RENAME costs no more than a touch of one mailbox,
+//! whatever its user has. Any other touch costs one look more than without and one note (two where it writes).
+//!
+//! A level that is taken leads to a later one past levels that are taken too. What a search passes is made to lead further, so
+//! that it is not passed again and again. Where an item touches several places, each place's levels are passed in turn until all
+//! let it stay: that may take as many turns as levels are passed.
 ghost use Rattle.std.specs.Prelude.{◌≡◌, ◌≤◌, ◌<◌, ◌||◌, max, nat_lt, IfOk, OnOk, [], ◌∷◌};
 ghost use Rattle.std.specs.List.{list_any};
 ghost use Rattle.replay_plan.specs.declared.slots.Part.TheVariants.{Level};

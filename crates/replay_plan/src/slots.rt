@@ -1,4 +1,10 @@
 //! What is kept of the earlier items: for each part of each place the last level.
+//!
+//! Of the earlier items the plan keeps the last level of each part of each place that they touch, once of all and once of those
+//! that write. The parts are anything at all, the whole, the end, the end by the item of a number, messages of the item of a
+//! number, and one message. It keeps the same of each user (anything, and all of it, which a RENAME touches), and which levels
+//! are taken at each place. An item looks at the parts that it must come behind and at the levels taken, at nothing else.
+//! `may_have` over all earlier items stays the definition.
 ghost use Rattle.std.specs.Prelude.{◌≡◌, OnOk, if◌then◌else◌};
 ghost use Rattle.replay_plan.specs.Slots.{spot_of, same_spot, level_at};
 

@@ -1,4 +1,9 @@
 //! What one line of a script says.
+//!
+//! `line C ` with nothing behind the space is an empty text; only `data` demands a byte. A CR before LF is a byte of the line, so
+//! it makes every line bad but a comment's.
+//!
+//! A connection that is not open may be named in a script; such events are ignored when they are served.
 ghost use Rattle.std.specs.Prelude.{◌≡◌, ◌≤◌, ◌-◌, length, nat_eq, replicate, option_map, option_and_then, IfOk, IsTrue};
 ghost use Rattle.std.specs.List.{starts_with};
 ghost use Rattle.std.specs.Str.{bytes_eq};

@@ -1,4 +1,6 @@
 //! Strings cut after each LF.
+//!
+//! A string without bytes has no pieces: nothing is written of it.
 ghost use Rattle.std.specs.Prelude.{◌≡◌, ◌≢◌, ◌<◌, ◌≤◌, ℕ, ◌∷◌, ◌==◌, length, drop, slice_index, IfNone, IfSome};
 ghost use Rattle.std.specs.Io.BufRead.{strip_last};
 ghost use Rattle.std.specs.List.{position_or_len};

@@ -1,4 +1,9 @@
 //! Scripts of events.
+//!
+//! A script of more than 4,294,967,295 bytes finds no memory, as a text of more bytes does; so `read_script` has no condition,
+//! and line numbers always fit.
+//!
+//! This is a crate of its own, since an edit of the machine's definitions rechecks all beside it.
 ghost use Rattle.script_link.specs.Script.{script_of, ReadsScript};
 
 use crate::line::{ScriptLine, read_line};

@@ -1,4 +1,7 @@
 //! How bytes are written in scripts and transcripts: a byte from 0x20 to 0x7d stands for itself, and `~` begins the others.
+//!
+//! What may be read is wider than what is written: `~x41` is read as `A`, and only bytes that have no other way are written by
+//! their digits.
 ghost use Rattle.std.specs.Prelude.{◌≡◌, ℕ, ◌<◌, ◌++◌, ◌∷◌, ◌&&◌, List, IfOk, IfSome, IfNone, IsTrue, OnOk, Option, None, option_map, length, drop, slice_index, ◌≤◌};
 ghost use Rattle.std.specs.Option.{option_map_or};
 ghost use Rattle.std.specs.List.{flat_map};

@@ -1,4 +1,7 @@
 //! Finding the payloads of a journal.
+//!
+//! A survey looks at all gates, and tells a frame that is cut beside the payloads before it, so that the earlier of two damaged
+//! places can be told. `load` is a survey and one more look.
 ghost use Rattle.std.specs.Prelude.{◌≡◌, ◌⊎◌, ◌<◌, ◌≤◌, ◌+◌, ◌^◌, ◌∷◌, [], ℕ, true, drop, IfErr, IfOk, IsErrOf, length};
 ghost use Rattle.std.specs.List.{All, slice_range};
 ghost use Rattle.std.specs.Int.{to_be_bytes, w32};

@@ -1,4 +1,9 @@
 //! The journal.
+//!
+//! `seal` whose next gate would lie past 2^64 - 1 answers want of memory (it can't: the disk's length is below that).
+//!
+//! Of a crash inside `format` nothing is claimed, since a torn first write may leave any first byte. That the frame is synced
+//! before its gate is opened is a clause (`frame_first`).
 ghost use Rattle.std.specs.Prelude.{◌≡◌, ◌<◌, ◌≤◌, ◌+◌, ◌^◌, ◌↔◌, ◌++◌, ◌∷◌, [], List, ℕ, true, IsTrue, IfOk, OnOk, IsErrOf, OnErr, ◌⊎◌, length, slice_range};
 ghost use Rattle.undo_outside.specs.Disk.{IsOverwritten, WriteCause};
 ghost use Rattle.undo_outside.specs.Moments.{LeavesOnly};

@@ -1,4 +1,7 @@
 //! What is seen of a journal.
+//!
+//! What a survey finds behind the payloads is an enum: a log where more can be sealed, or the place of the gate where a frame is
+//! cut. So a survey of damage gives nothing to seal with.
 ghost use Rattle.std.specs.Prelude.{◌≡◌, ◌↔◌, [], true, false, IsTrue};
 ghost use Rattle.seal_log.specs.Log.{IsClosed, end_gate, is_cut as cut_there, leaves_open};
 

@@ -1,4 +1,6 @@
 //! The dates of keys (RFC 3501, section 9: date-text).
+//!
+//! A date is d-Mon-yyyy or dd-Mon-yyyy, a month in any case, as a word or in quotes.
 ghost use Rattle.std.specs.Prelude.{◌≡◌, ◌≤◌, ◌<◌, IfSome};
 ghost use Rattle.search_lines.specs.Days as spec;
 

@@ -1,4 +1,9 @@
 //! Keys, which may hold others up to a depth.
+//!
+//! The grammar of the arguments is a crate of its own, since imap_lines would pass a hundred functions by it.
+//!
+//! A command's keys, also one alone, are read as a list of which all must match. A size may begin with zeros, as the place of a
+//! part. A key is as deep as the NOTs, ORs and parentheses round it: 64 NOTs may stand before SEEN.
 ghost use Rattle.std.specs.Prelude.{◌≡◌, length, option_map, IfOk};
 ghost use Rattle.search_lines.specs.Keys as spec;
 

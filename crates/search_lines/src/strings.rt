@@ -1,4 +1,6 @@
 //! The arguments of keys, each behind a space.
+//!
+//! A HEADER's name is any astring, also one that no field can have.
 ghost use Rattle.std.specs.Prelude.{◌≡◌, option_map};
 ghost use Rattle.search_lines.specs.Strings as spec;
 

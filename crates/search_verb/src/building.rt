@@ -1,4 +1,8 @@
 //! Keys that contracts see as what they ask, and how they are made.
+//!
+//! A command keeps what it searches for as `Search`, a struct round the enum of keys, seen by contracts as what it asks (`Asked`,
+//! a plain tree). An enum that holds itself in a Box has addresses in its value, and no clause could say which key a command
+//! gives.
 ghost use Rattle.std.specs.Prelude.{◌≡◌, [], ◌∷◌, ◌++◌, IfOk, OnOk, OnErr, length};
 ghost use Rattle.search_verb.specs.Asked.{asked_by, Every, Never, Answered, Deleted, Draft, Flagged, Seen, Places, Uids, Before, On, Since, Larger, Smaller, Field, Body, Text, Not, Or};
 ghost use Rattle.search_verb.specs.Asked as asked;

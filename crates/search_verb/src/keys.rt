@@ -1,4 +1,6 @@
 //! Search keys.
+//!
+//! What bounds the stack: `matches`, `looks`, `copy` and `drop` go down a key by one call for each level; the grammar allows 64.
 use std::alloc::Global;
 use undo_base::{Copies, NoMemory, Sequence, Text};
 

@@ -1,4 +1,6 @@
 //! Which messages a key matches.
+//!
+//! What a search looks at goes by the kind of its keys: a string of no bytes looks at the text too.
 ghost use Rattle.std.specs.Prelude.{◌≡◌, map, int_lt, int_le, ℤ, pos};
 ghost use Rattle.std.specs.Ordering.{int_eq};
 ghost use Rattle.search_verb.specs.Asked.{all_of, asked_by};

@@ -1,4 +1,8 @@
 //! The bytes of a stream in memory.
+//!
+//! A cutter takes the bytes that it gave away out of its buffer when it gives a line, not when bytes come. So never more than
+//! half of what is held is given away. Where nothing whole is there it takes away all that was given. What stays came behind the
+//! last line, so each byte of it is moved once at most for it.
 ghost use Rattle.std.specs.Prelude.{◌≡◌, ◌≢◌, ◌↔◌, ℕ, ◌+◌, ◌-◌, ◌*◌, ◌≤◌, ◌<◌, true, false, [], ◌++◌, length, take, drop, nat_lt, None, IfNone, IfSome, IfOk, OnOk, OnErr, ◌∷◌};
 ghost use Rattle.smtp_lines.specs.Lines.{is_end, last_byte, lines_of, tail_of, held_of, shortened};
 ghost use Rattle.smtp_lines.specs.Holding.{IsKept, marked, seen};

@@ -1,4 +1,15 @@
 //! The commands of an SMTP client (RFC 5321, section 4.1.1).
+//!
+//! A command line is too long by the bytes before CRLF, spaces at its end included; a line that was cut is too long whatever was
+//! kept of it.
+//!
+//! The word ends at the first space; the argument is all behind that space, less the spaces at the line's end. So `NOOP  x` has
+//! the argument ` x`, `HELO  a` is 501, and a line that begins with a space has an empty word: 500.
+//!
+//! What RFC 5321 makes case-insensitive ignores case. MAIL, RCPT and HELO give their arguments as spelled; the session lowers
+//! them. `VRFY` wants a non-empty argument.
+//!
+//! Want of memory is answered only for a line that is a command; a line that is to be refused is refused without memory.
 ghost use Rattle.std.specs.Prelude.{◌≡◌, true, IfOk, Ok, Err};
 ghost use Rattle.std.specs.List.{list_all};
 ghost use Rattle.std.specs.Option.{option_copied};

@@ -1,4 +1,10 @@
 //! Paths in angle brackets (RFC 5321, section 4.1.2).
+//!
+//! The route of a path is dropped once. A reverse path of a route alone (`<@a:>`) is empty and accepted. `<@a:postmaster>` is
+//! `postmaster` alone.
+//!
+//! A path ends at the first `>`. Directly behind it stands the end of the line, or a space (555), or anything else (501). A bad
+//! path is 501 even where a parameter follows.
 ghost use Rattle.std.specs.Prelude.{◌≡◌};
 ghost use Rattle.std.specs.Option.{option_copied};
 ghost use Rattle.std.specs.List.{list_all};

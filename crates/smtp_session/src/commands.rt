@@ -1,4 +1,11 @@
 //! What each command does to a dialog (RFC 5321, section 4.1.1).
+//!
+//! Domains are compared ignoring case, on both sides.
+//!
+//! The transaction begins with no recipient; DATA wants one. RCPT is refused in this order: the grammar, 503, 452 for 1,000
+//! recipients (also for a repeated one), 550.
+//!
+//! HELO and EHLO may come at any time outside a text, and clear the transaction; NOOP, VRFY, RSET and QUIT need no greeting.
 ghost use Rattle.std.specs.Prelude.{◌≡◌, List, ℕ, Option, IsTrue, IfOk, OnErr};
 ghost use Rattle.std.specs.List.{list_any};
 ghost use Rattle.std.specs.Str.{str_eq_ignore_ascii_case, str_to_ascii_lowercase};

@@ -1,4 +1,6 @@
 //! The state of a dialog, and what a line does to it.
+//!
+//! A dialog is a function of its state, the house, the configuration, the moment and one line.
 ghost use Rattle.std.specs.Prelude.{◌≡◌, ◌≤◌, IsTrue, IfOk, OnErr, Ok, Err};
 ghost use Rattle.smtp_lines.specs.Command.{Reading, ReadsCommand, command_of};
 ghost use Rattle.verb_core.specs.declared.conf.Conf.{Conf as TheConf};

@@ -1,4 +1,9 @@
 //! A text as it comes, line by line (RFC 5321, section 4.5.2).
+//!
+//! A text is `None` once it is too large. A line that a cutter cut makes it so by the same rule: what is kept of it has 1,048,576
+//! bytes.
+//!
+//! In a text a line that was cut makes the text too large by rule, whatever its length.
 ghost use Rattle.std.specs.Prelude.{◌≡◌, ◌++◌, IfOk, OnOk, OnErr, length, ◌≤◌, option_map, option_copied, unwrap_or, []};
 ghost use Rattle.smtp_session.specs.Bytes.{said};
 ghost use Rattle.smtp_session.specs.Body.{body_of};

@@ -20,8 +20,8 @@ pub fn newest_at_is_the_last_at_or_before()
     ensures last { (place : ℕ) (places : List ℕ) → IsStrictlyIncreasing places → (n : ℕ) → Contains places n → n ≤ place → n ≤ newest_at place places }
 {}
 
-/// Of marks that rise, as a shelf tells that its own do, the newest of those that are not behind a position is one of the marks, and the
-/// greatest that is not behind it; where there is none, each is behind it.
+/// Marks rise, as a shelf tells that its own do. Then the newest of those that are not behind a position is one of the marks, and the
+/// greatest that is not behind it. Where there is none, each is behind it.
 pub fn newest_mark_is_the_greatest()
     ensures one { (position : ℕ) (marks : List (ℕ × Place)) (m : ℕ × Place) → newest (marks_at_or_before position marks) ≡ Some m → (k : ℕ) × (slice_get marks k ≡ Some m) }
     ensures before { (position : ℕ) (marks : List (ℕ × Place)) (m : ℕ × Place) → newest (marks_at_or_before position marks) ≡ Some m → m.0 ≤ position }

@@ -1,5 +1,8 @@
 //! The digest of a mail store, by which two stores are compared.
 //!
+//! The digest of a store whose snapshot has no spelling would be want of memory; in use each has one. The same of the text of its
+//! snapshot.
+//!
 //! What carries the crate: `digest` answers `digest_of` the store, the SHA-256 of its snapshot's one spelling, which
 //! `snapshot_text` gives.
 #![tactic(auto)]

@@ -1,4 +1,8 @@
 -- The base: the store before the first item, on which the items in force stand, and the texts that come with it.
+--
+-- Every definition of a cycle begins with the base, a field of what is kept: a journal that was cut begins with another than the
+-- opening store. What a desk's invariant says of it is that it carries what is kept (`HasBase`), not that it is the opening
+-- store. A law says that of each journal of which nothing was cut off (`states_are_sound`, `opening`).
 use Rattle.std.specs.Prelude.{◌≡◌, ◌≢◌, ℕ, ◌≤◌, List, is_some, IsTrue}
 use Rattle.std.specs.List.{AllByRecursion}
 use Rattle.verb_core.specs.declared.item.Item.{Item}

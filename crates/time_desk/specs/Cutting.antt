@@ -35,8 +35,8 @@ pub record AreParts (kept : Kept) (parts : CutParts) : Type 0 where
   pub head_spelled : HasSpelling (Format kept.house kept.opening)
   pub base_spelled : HasSpelling (base_record kept)
 
--- the timeline has the point; and where the texts are told as they were stored, or the cut does not rest on them, the parts are those of
--- what is kept, cut there
+-- The timeline has the point. Where the texts are told as they were stored, or the cut does not rest on them, the parts are those of
+-- what is kept, cut there.
 abbrev pub Cuts : Kept → ℕ → Type 0 → CutParts → Type 0
 Cuts kept point told parts = (place : ℕ) × (position kept.timeline point ≡ Some place) × (ToldOr told (rests_on_disk kept place) → AreParts (cut kept place) parts)
 

@@ -1,5 +1,5 @@
 -- What is read where items are performed again: a snapshot, where one is marked from which to begin, and the texts of deliveries that the
--- request does not bring, and of no other item.
+-- request does not bring. Of no other item is a text read.
 use Rattle.std.proofs.Common.{◌≡◌, ◌⊎◌, ℕ, zero, suc, ◌<◌, ◌==◌, ◌||◌, ◌&&◌, not, bytes_eq, Bool, true, false, List, [], ◌∷◌, length, take, refl, sym, subst, ◌∙◌, arith}
 use Rattle.std.specs.List.{list_any}
 use Rattle.std.specs.Prelude.{unwrap_or}

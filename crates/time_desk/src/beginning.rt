@@ -1,4 +1,8 @@
 //! What a cycle begins with: the newest snapshot in the journal that can serve, or else the store before the first item.
+//!
+//! A snapshot that does not hold what was written is passed over for the next older one, and at last for the opening store. On a
+//! disk that holds its texts that never comes. It is said of what the reads give of an honest disk, whatever lies on it (`passes`
+//! of `newest` and `beginning`).
 ghost use Rattle.std.specs.Prelude.{◌≡◌, ◌<◌, ◌≤◌, ◌+◌, ℕ, false, List, [], Some, None, Ok, take, length, option_map, IfOk, IfSome, IsErrOf, IsTrue};
 ghost use Rattle.std.specs.List.{AllByRecursion, list_all};
 ghost use Rattle.verb_core.specs.declared.mailbox.Entry.{Entry as TheEntry};

@@ -1,4 +1,8 @@
 //! The texts that items ask for which are performed again: those of deliveries, and no other.
+//!
+//! `Deliveries` and `DueDeliveries` lend the desk's texts to what performs items again, and hold the texts of the deliveries
+//! among these items alone. A text that the request brings is given as it is. So a read fails only where another is among them,
+//! or a snapshot from which to begin (`cycle_reads`). A plan reads so at the last item too, where it is empty.
 ghost use Rattle.time_desk.specs.Replaying.{DeliveriesOn, DueDeliveriesOn, deliveries_on, deliveries_to_itself, deliveries_told, due_on, due_to_itself, due_told};
 
 use desk_journal::Reading;

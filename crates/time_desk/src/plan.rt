@@ -1,4 +1,7 @@
 //! What the operator asks of the items later than a point: which of them could be done side by side.
+//!
+//! The plan that the console shows is made by the same calls: it resolves copies of the items behind the point, so it needs
+//! memory for these.
 ghost use Rattle.std.specs.Prelude.{◌≡◌, ◌⊎◌, ◌++◌, ◌∷◌, [], List, ◌<◌, ◌≤◌, false, length, map, take, drop, IfErr, IfOk, IsErrOf, IsTrue, OnOk};
 ghost use Rattle.std.specs.List.{AllByRecursion};
 ghost use Rattle.verb_core.specs.Items.{IsWellFormed};

@@ -1,4 +1,7 @@
 //! What users ask.
+//!
+//! A desk is seen as what is kept, its room, its disk, the last gate and whether it is closed. A submit and an act look at
+//! `closed` first, then at what is due, then make all room, and only then seal. After the seal no memory is taken.
 ghost use Rattle.std.specs.Prelude.{◌≡◌, ◌↔◌, [], ◌∷◌, Ok, IsTrue, IsSome, IfOk, OnOk, IfErr, OnErr, IsErrOf};
 ghost use Rattle.std.specs.List.{list_all, cons_option};
 ghost use Rattle.verb_core.specs.Live.{is_users, live};

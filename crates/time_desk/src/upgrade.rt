@@ -1,4 +1,7 @@
 //! The upgrade of a store: from then on names may have superiors.
+//!
+//! `Desk::upgrade` of a desk that is deep is OK again, so that who lost the answer may ask once more. After a seal that failed a
+//! new opening tells which of the two it is.
 ghost use Rattle.std.specs.Prelude.{◌≡◌, ◌↔◌, true, false, IsTrue, OnOk, IfErr, OnErr, IsErrOf};
 ghost use Rattle.seal_log.specs.Causes.{SealWants};
 ghost use Rattle.store_kept.specs.Kept.{upgraded};

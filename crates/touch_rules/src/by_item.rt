@@ -1,4 +1,7 @@
 //! The touches of an item whose aims are known.
+//!
+//! The touches of an item are its deed's row of the table. Aims count only where the deed brings mail (`CanHave`), so the law of
+//! commuting items has no case of a deed that goes nowhere and has aims.
 ghost use Rattle.std.specs.Prelude.{◌≡◌, [], ◌∷◌, ◌++◌, map, is_some, true, false, IfOk};
 ghost use Rattle.verb_core.specs.Names.{lost_found, with_superiors};
 ghost use Rattle.verb_core.specs.Items.{is_own};

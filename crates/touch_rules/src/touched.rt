@@ -1,4 +1,7 @@
 //! What is touched: a place, which is a mailbox or the names of a user's mailboxes, and how.
+//!
+//! An Every has no mailbox (`mailbox_of`) and is no place among the others: whether two touches have a common place
+//! (`share_place`) asks first whether one of them is an Every.
 ghost use Rattle.std.specs.Prelude.{◌≡◌, option_copied};
 
 use undo_base::{Keys, Name, User};

@@ -1,4 +1,7 @@
 //! Numbers in digits.
+//!
+//! What digits are and what they stand for is said in one place, here, but for a date's fields of two and four digits, which
+//! imap_tokens says. Numbers are read here: at most twelve digits, without a leading zero, between a least and a greatest number.
 ghost use Rattle.std.specs.Prelude.{◌≡◌, ◌≤◌, true, length};
 ghost use Rattle.std.specs.Char.{is_ascii_digit};
 ghost use Rattle.std.specs.List.{list_all};

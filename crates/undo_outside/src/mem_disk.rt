@@ -1,4 +1,10 @@
 //! A disk in memory, which keeps a record of what was written.
+//!
+//! A call is counted as those of the other objects in memory: also a `write_at` that found no memory, by a counter of 64 bits.
+//! The record holds the disk's writes, done and failed, and behind each whether a sync succeeded. A read, a length and a sync
+//! have no answer for want of memory, so they take none, and are counted alone.
+//!
+//! `image_after(count)` and `image_torn(count, kept)` take any count: more than there are means all of them.
 ghost use Rattle.std.specs.Prelude.{◌≡◌, ◌+◌, ◌≤◌, ◌↔◌, ◌∷◌, [], true, IsErr, IsErrOf, OnOk, OnErr, IfOk, length, take, drop};
 ghost use Rattle.std.proofs.Common.{refl, subst, sym};
 ghost use Rattle.undo_outside.specs.Calls.{Rose};

@@ -1,4 +1,7 @@
 //! Records, read from their bytes.
+//!
+//! That bytes which are refused are not told as want of memory, no contract can say, since none says how much memory there is.
+//! The tests of record_tests ask it, with ample memory, of each kind of field, cut and out of its range.
 ghost use Rattle.std.specs.Prelude.{◌≡◌, ◌≤◌, ◌-◌, Ok};
 ghost use Rattle.verb_bytes.specs.declared.journal.JournalRecord.{JournalRecord};
 ghost use Rattle.verb_bytes.specs.declared.journal.JournalRecord.TheVariants.{Verb, Operator, Cycle, Upgrade, Withdraw, Kept};

@@ -1,4 +1,10 @@
 //! Deeds as parts of records.
+//!
+//! The text of DELIVER, APPEND and Give, and a replaced text, has the range of a stored body. The sender of DELIVER and the
+//! pattern of LIST have no range but that of their length.
+//!
+//! The limits of a deed's text and of what was shown are parameters of their fields, and so is the last kind of a deed. The
+//! record of an item that is kept, where the past was cut off, holds the same with others than that of a user's item.
 ghost use Rattle.std.specs.Prelude.{◌≤◌, ◌-◌};
 ghost use Rattle.verb_core.specs.declared.item.Deed.TheVariants.{Deliver, Append, Fetch, Store, Copy, List as Names, Status, Select, Expunge, Close, Create, Rename, Delete, Act as Acts, Notice};
 ghost use Rattle.verb_bytes.specs.Fields.{◌&◌, deed_kind_to, name_field};

@@ -1,4 +1,6 @@
 //! Records, written as their bytes.
+//!
+//! A record whose spelling has more than 4,294,967,295 bytes finds no memory.
 ghost use Rattle.std.specs.Prelude.{◌≡◌, IfOk};
 ghost use Rattle.verb_bytes.specs.declared.journal.JournalRecord.TheVariants.{Verb, Operator, Cycle, Snapshot, Upgrade, Withdraw, Base, Text as TextRecord, Kept};
 ghost use Rattle.verb_bytes.specs.Spelling.{ask_fields, filter_fields, scoped_fields, store_fields, record_fields, record_bytes, HasSpelling};

@@ -1,4 +1,6 @@
 //! Items as parts of records: a user's, as it is recorded, and any item, as it is kept.
+//!
+//! Whether a DELIVER has nobody as its actor, and every other deed somebody, is asked when a record is to stand, not here.
 ghost use Rattle.verb_bytes.specs.Readers.{Gives, read1};
 ghost use Rattle.verb_bytes.specs.Reading.{item_of, kept_at, shown_at};
 ghost use Rattle.verb_bytes.specs.Spelling.{kept_fields, shown_kind};

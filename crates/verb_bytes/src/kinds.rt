@@ -1,4 +1,8 @@
 //! What follows in a record: one byte tells the kind of record, one the act, one the deed. A new kind moves its last.
+//!
+//! The definitions cite limits and the last kind, act and deed by the constants of the code, so that each stands once. A
+//! constant's value is then part of the definition. The last kind, act and deed are also tied to the rows, of which there are as
+//! many.
 ghost use Rattle.std.specs.Prelude.{◌≤◌, IfOk};
 ghost use Rattle.verb_bytes.specs.Fields.{act_kind, deed_kind_to, record_kind};
 ghost use Rattle.verb_bytes.specs.Readers.{Gives, act_kind_at, deed_kind_at, record_kind_at};

@@ -1,4 +1,7 @@
 //! Mailboxes as parts of records.
+//!
+//! Order is no range: that aliases, users of an alias and mailboxes rise is not asked here. Mailboxes that do not rise make no
+//! store, and are refused there.
 ghost use Rattle.verb_bytes.specs.Fields.{list_fields};
 ghost use Rattle.verb_bytes.specs.Reading.{entry_at};
 ghost use Rattle.verb_bytes.specs.Readers.{Gives, list_at};

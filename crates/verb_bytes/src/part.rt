@@ -1,4 +1,10 @@
 //! Parts of records, and lists of them.
+//!
+//! A list of a record takes room as its elements are read, for as many again and four. So a record that announces 4,294,967,295
+//! elements and has none takes no more than that.
+//!
+//! Lists of a house's accounts have at most 200 members, recipients of DELIVER 1,000, and keys of an item, those shown included,
+//! 65,536. Other lists have no range but that of their count, and numbers of items, UIDs and revs none but that of their bytes.
 ghost use Rattle.std.specs.Prelude.{◌≡◌, ◌≤◌, ◌+◌, ◌*◌, ℕ, List, [], ◌∷◌, ◌++◌, Result, Ok, Err, length, Option, IfErr, OnOk, OnErr, vec_len, vec_capacity};
 ghost use Rattle.std.specs.List.{flat_map};
 ghost use Rattle.verb_bytes.specs.Fields.{Field, list_fields, option_fields};

@@ -1,4 +1,8 @@
 //! Where the texts of messages lie in the bytes of records.
+//!
+//! A place in a record is told by the fields before the text and the four bytes of its length. A cycle's record has a place for
+//! each replaced text, in the order asked, and for each text that an act of it gives. Of two texts for one item the last is
+//! noted, as it is the one that counts.
 ghost use Rattle.std.specs.Prelude.{◌≡◌, ◌≤◌, ◌<◌, ◌+◌, ◌*◌, ℕ, List, [], ◌∷◌, ◌++◌, Some, length, drop, min, option_copied, option_map, take, IfOk, OnOk};
 ghost use Rattle.std.specs.List.{flat_map, AllZip};
 ghost use Rattle.std.specs.Option.{option_to_list};

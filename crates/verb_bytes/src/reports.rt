@@ -1,4 +1,13 @@
 //! What cycles reported, and the stamps of mailboxes, as parts of records.
+//!
+//! The order of a base's stamps and reports is no range: where these do not rise the base cannot stand, and opening tells its
+//! gate, as for a spelling that is refused. Only what `decode_record` answers differs.
+//!
+//! The key of a report in a base is a name of 1 to 200 bytes, as in the records of cycles and withdrawals. At most 64 is a rule
+//! of the console's requests; a journal in which a longer key stands opens, and so can be cut.
+//!
+//! The verb of an item that is told of is the byte of its deed, 1 to 13. Acts and notices, 14 and 15 in the record of an item
+//! that is kept, are told of by no report.
 ghost use Rattle.std.specs.Prelude.{◌≤◌, ◌-◌};
 ghost use Rattle.verb_bytes.specs.Readers.{Gives, nth_case};
 ghost use Rattle.verb_bytes.specs.Reading.{reason_at, reason_cases, verb_at, verb_cases};

@@ -1,4 +1,8 @@
 //! Filters with their scopes as parts of records.
+//!
+//! A snapshot of the kind with scopes in which each filter looks at the whole text is refused where its list of filters begins,
+//! once the whole list was read. It is that field that is out of its range. A list that is cut or has a bad element is told by
+//! that. A scope's byte is a field, and so is a field's name, of 1 to 64 letters, digits, `-` and `_`.
 ghost use Rattle.std.specs.Prelude.{◌≡◌, ◌≤◌, ◌+◌, ◌*◌, ◌-◌, ◌∷◌, [], List, Ok, Err, length, vec_capacity, IfErr, OnOk};
 ghost use Rattle.std.specs.List.{flat_map};
 ghost use Rattle.verb_bytes.specs.Fields.{any_list_fields};

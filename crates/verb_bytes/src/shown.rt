@@ -1,4 +1,6 @@
 //! What was shown, as a part of records.
+//!
+//! The byte of a shown is out of its range where it is not the one of its deed.
 ghost use Rattle.std.specs.Prelude.{◌≡◌, ◌≤◌};
 ghost use Rattle.verb_core.specs.declared.item.Shown.TheVariants.{Seen, Names as Named, Count, Done, Copied, Put, Left, Way as Went, Moved};
 ghost use Rattle.verb_bytes.specs.Fields.{◌&◌, byte_field, key_field, list_fields};

@@ -1,4 +1,7 @@
 //! Names, numbers, users and keys as parts of records.
+//!
+//! A user is a number up to 199, since a house has 200 users at most; whether the house has that user is asked when a record is
+//! to stand.
 use crate::cursor::{Cursor, Stop};
 use crate::part::Part;
 use crate::write::{MOST_BODY, Unwritten, put_key, put_name, put_text, put_u32, put_user};

@@ -1,4 +1,8 @@
 //! Fields, written at the end of a text where their values are in their ranges.
+//!
+//! Fields are numbers, names, texts, keys, bools, flags, the byte of an option, the count of a list, and the byte that says which
+//! kind, deed, shown or act follows. A key is one field. A name with a byte that is not printable is out of its range as a whole,
+//! so it is refused at its length.
 ghost use Rattle.std.specs.Prelude.{◌≡◌, ◌≤◌, ◌++◌, IsTrue};
 ghost use Rattle.std.specs.Int.{w32, w64};
 ghost use Rattle.verb_bytes.specs.Fields.{field, only_if, byte_field, number_field, name_field, field_name_field, text_field, key_field, user_field, actor_field, bool_field, flags_field, worth};

@@ -1,4 +1,8 @@
 -- Which filter decides where a delivery's message goes.
+--
+-- A filter's needle keeps its case in every scope; of a header field only the name ignores it. What is looked at is the field's
+-- value with its folds, so a needle over a fold is not found. A sender is the reverse path as it is kept, and an empty one has no
+-- needle in it. A recipient is a local part as the delivery names it, also one that means nobody by now.
 use Rattle.std.specs.Prelude.{ℕ, Bool, true, false, ◌&&◌, ◌||◌, List, [], ◌∷◌, find, Option, nat_eq}
 use Rattle.std.specs.List.{list_any, list_all, starts_with}
 use Rattle.header_fields.specs.Fields.{fields_of}

@@ -1,5 +1,8 @@
 -- What an item did before names had a hierarchy and filters a scope. It serves for one law: on items of those days this and
 -- `step` are the same.
+--
+-- What old records mean is a law over any valid base without `/` in its names and with filters of the whole text, and the opening
+-- store is one. It asks that a RENAME's target has a byte, as every name has.
 use Rattle.std.specs.Prelude.{ℕ, Bool, true, false, not, ◌&&◌, ◌||◌, ◌==◌, if◌then◌else◌, List, [], ◌∷◌, filter, find, option_map, unwrap_or, Option, bytes_eq, IsTrue}
 use Rattle.std.specs.List.{list_all, list_any, AllByRecursion}
 use Rattle.std.specs.Str.{str_to_ascii_uppercase}

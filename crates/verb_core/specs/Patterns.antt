@@ -1,4 +1,8 @@
 -- The patterns of LIST (RFC 3501, section 6.3.8).
+--
+-- The case of INBOX is ignored byte by byte, by the place in the name: its first five bytes, where they are the whole name or
+-- stand before the first `/`. So `i*X` lists `INBOX/X`, and `*x` lists INBOX and `INBOX/x` but not `INBOX/X`. It is so whether or
+-- not the store is deep.
 use Rattle.std.specs.Prelude.{ℕ, Bool, not, true, false, ◌&&◌, ◌||◌, ◌==◌, if◌then◌else◌, List, [], ◌∷◌, ◌++◌, map, drop, length, bytes_eq}
 use Rattle.std.specs.List.{before_first}
 use Rattle.std.specs.Char.{to_ascii_uppercase}

@@ -1,4 +1,8 @@
 //! What users ask of the store, and why it is refused.
+//!
+//! `SubmitFault` stands here beside `Refused`, since each session takes it and the desk gives it.
+//!
+//! `HasInferiors` stands last among the refusals' names, and is told by its place in the order: behind NoBox, before TryCreate.
 use undo_base::{Flags, How, Keys, Name, Names, Text};
 
 /// What is asked of the store. `strict` is true where the messages were named by sequence number. An EXPUNGE with `only` removes no others than these.

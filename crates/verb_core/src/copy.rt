@@ -1,4 +1,7 @@
 //! Copies of items, configurations and mailboxes.
+//!
+//! The copies are of the trait `Copies` of undo_base, which a caller brings into scope. `Rows` is a list type of undo_base, so it
+//! can't have a method of this crate.
 use crate::copy_deeds::{
     copy_act, copy_append, copy_close, copy_copy, copy_create, copy_delete, copy_deliver,
     copy_drop_alias, copy_drop_filter, copy_expunge, copy_fetch, copy_field, copy_give, copy_list,

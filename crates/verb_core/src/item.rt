@@ -1,4 +1,7 @@
 //! Items of the timeline, and what their users were shown.
+//!
+//! Items, deeds and resolved items cannot be printed or compared in code: nothing needs it, and each such derive costs some
+//! seconds of proof.
 use crate::{Aims, Filter, Sights};
 use undo_base::{Flags, How, Key, Keys, Name, Names, Text, User, Users};
 

@@ -1,4 +1,7 @@
 //! The entries of a mailbox, with what is known of the order of their keys.
+//!
+//! That a mailbox has at most 4,294,967,295 entries is kept by box_store, whose effects find no memory past it; no definition
+//! needs it.
 ghost use Rattle.std.specs.Prelude.{◌≡◌, [], IsTrue, length};
 ghost use Rattle.verb_core.specs.KeyOrder.{is_above, keys_rise, keys_rise_from, last_key};
 

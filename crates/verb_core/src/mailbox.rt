@@ -1,4 +1,6 @@
 //! Mailboxes and what lies in them.
+//!
+//! Rows and stamps hold pairs of `BoxId { user, name }` and a mailbox or a stamp.
 use crate::Entries;
 use undo_base::{Flags, Key, Name, User};
 

@@ -1,4 +1,7 @@
 -- What holds of what a cycle left to be withdrawn, beside the items in force since: all that stood behind its point can come back.
+--
+-- Texts that went and come back had them before. So that a body has one text over all that happens is said of the items in force
+-- and of those that can come back together.
 use Rattle.std.specs.Prelude.{◌≡◌, ◌<◌, ◌≤◌, List, [], drop, length}
 use Rattle.std.specs.List.{AllByRecursion}
 use Rattle.verb_core.specs.declared.conf.House.{House}

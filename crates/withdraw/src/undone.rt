@@ -1,4 +1,6 @@
 //! What the last cycle left to be withdrawn.
+//!
+//! The point is kept beside its position, because the report tells it.
 use stored_items::StoredItems;
 
 /// What is known of a cycle: its number, and the timeline just before it. And how many of these items stand through its point,
