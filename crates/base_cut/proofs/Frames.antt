@@ -3,7 +3,7 @@ use Rattle.std.proofs.Common.{◌≡◌, ◌<◌, ◌^◌, ◌+◌, ◌∙◌, �
 use Rattle.std.proofs.lemmas.List.{append-nil}
 use Rattle.std.specs.Int.{w32, to_be_bytes}
 use Rattle.seal_log.specs.Journal.{frame, IsPayload}
-use Rattle.base_cut.specs.Cutting.{parted}
+use Rattle.verb_bytes.specs.Holes.{parted}
 
 pub payload_bytes : (payload front : List ℕ) → front ≡ 85 ∷ (to_be_bytes w32 (length payload) ++ []) → front ++ (payload ++ []) ≡ 85 ∷ frame payload
 payload_bytes payload front e =

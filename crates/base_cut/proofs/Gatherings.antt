@@ -5,7 +5,7 @@ use Rattle.undo_outside.specs.Calls.{SinkTold, then_told}
 use Rattle.seal_log.specs.Journal.{sealed, IsPayload}
 use Rattle.base_cut.specs.declared.fault.CutFault.{CutFault}
 use Rattle.base_cut.specs.declared.fault.CutFault.TheVariants.{Read, Sink, NoMemory}
-use Rattle.base_cut.specs.Writing.{Took, TookFront}
+use Rattle.base_cut.specs.Writing.{SinkTook, TookFront}
 use Rattle.base_cut.specs.Cutting.{IsRefused, IsUnwritten, PassesOn, Stops, Writes, WritesEach, WritesSealed}
 use Rattle.base_cut.proofs.Streams.{longer}
 use Rattle.base_cut.proofs.Unfinished.{both_short, ends_within, sealed_both, unfinished_part}
@@ -60,7 +60,7 @@ module _ {A : Type 0} (IsOf : A → List ℕ → Type 0) where
       (payload ∷ payloads, (is, are), subst (λ (l : List (List ℕ)). WritesSealed l a b r) (append_assoc waiting (payload ∷ []) payloads) more)
 
   -- those that waited were written
-  pub waiting_written : (waiting : List (List ℕ)) (xs : List A) (a b c : SinkTold) (r : Result (Unit {0}) CutFault) → AllByRecursion IsPayload waiting → Took a b (sealed waiting)
+  pub waiting_written : (waiting : List (List ℕ)) (xs : List A) (a b c : SinkTold) (r : Result (Unit {0}) CutFault) → AllByRecursion IsPayload waiting → SinkTook a b (sealed waiting)
       → WritesBehind [] xs b c r → WritesBehind waiting xs a c r
   waiting_written waiting xs a b c r short took (payloads, are, more) = (payloads, are, sealed_behind waiting payloads a b c r (took, short) more)
 
@@ -100,11 +100,11 @@ module _ {A : Type 0} (IsOf : A → List ℕ → Type 0) where
   pub passed_on : (old mid new : SinkTold) (bytes left : List ℕ) (xs : List A) (r : Result (Unit {0}) CutFault) (passes : PassesOn old mid bytes left (Ok tt)) (w : Waits bytes)
       → WritesBehind IsOf (left_waits old mid bytes left passes w).payloads xs mid new r → WritesBehind IsOf w.payloads xs old new r
   passed_on old mid new bytes left xs r (inl (took, none)) w more =
-      waiting_written IsOf w.payloads xs old mid new r w.short (subst (Took old mid) w.bytes_are took) more
+      waiting_written IsOf w.payloads xs old mid new r w.short (subst (SinkTook old mid) w.bytes_are took) more
   passed_on old mid new bytes left xs r (inr (same, still)) w more = subst (λ (s : SinkTold). WritesBehind IsOf w.payloads xs s new r) same more
 
   -- in the end all that waits is written
   pub all_written : ((x : A) → (payload : List ℕ) × IsOf x payload) → (a b : SinkTold) (bytes : List ℕ) (r : Result (Unit {0}) CutFault) (w : Waits bytes) → Writes a b bytes r
       → WritesBehind IsOf w.payloads [] a b r
-  all_written some a b bytes (Ok x) w took = waiting_written IsOf w.payloads [] a b b (Ok tt) w.short (subst (Took a b) w.bytes_are took) (each_none IsOf b)
+  all_written some a b bytes (Ok x) w took = waiting_written IsOf w.payloads [] a b b (Ok tt) w.short (subst (SinkTook a b) w.bytes_are took) (each_none IsOf b)
   all_written some a b bytes (Err fault) w front = waiting_unwritten IsOf some w.payloads [] a b fault w.short (subst (TookFront (IsRefused fault) a b) w.bytes_are front)

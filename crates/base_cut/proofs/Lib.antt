@@ -3,5 +3,4 @@ pub mod Unfinished
 pub mod Writings
 pub mod Frames
 pub mod Gatherings
-pub mod Around
 pub mod Told

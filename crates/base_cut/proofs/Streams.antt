@@ -5,7 +5,7 @@ use Rattle.std.proofs.lemmas.List.{append-nil, append_assoc, length-append, take
 use Rattle.undo_outside.specs.declared.fault.Fault.{Fault}
 use Rattle.undo_outside.specs.declared.fault.Fault.TheVariants.{Failed, NoMemory}
 use Rattle.undo_outside.specs.Calls.{SinkTold, FailsToWrite, then_told, Writes}
-use Rattle.base_cut.specs.Writing.{Took, WritesAll}
+use Rattle.base_cut.specs.Writing.{SinkTook, WritesAll}
 
 -- nothing more is told
 pub then_told-nil : {A : Type 0} (told : Option (List A)) → then_told told [] ≡ told
@@ -16,10 +16,10 @@ pub then_told-append : {A : Type 0} (told : Option (List A)) (xs ys : List A) �
 then_told-append None xs ys = refl
 then_told-append (Some zs) xs ys = ap Some (append_assoc zs xs ys)
 
-pub took_none : (told : SinkTold) → Took told told []
+pub took_none : (told : SinkTold) → SinkTook told told []
 took_none told = record { written = sym (then_told-nil told.written); faults = refl; out_of_memory = refl; reliable = refl }
 
-pub took_more : (a b c : SinkTold) (xs ys : List ℕ) → Took a b xs → Took b c ys → Took a c (xs ++ ys)
+pub took_more : (a b c : SinkTold) (xs ys : List ℕ) → SinkTook a b xs → SinkTook b c ys → SinkTook a c (xs ++ ys)
 took_more a b c xs ys t u = record {
   written = u.written ∙ ap (λ o. then_told o ys) t.written ∙ then_told-append a.written xs ys;
   faults = u.faults ∙ t.faults;
@@ -28,7 +28,7 @@ took_more a b c xs ys t u = record {
 }
 
 -- a write took some of the piece
-took_some : (old new : SinkTold) (piece : List ℕ) (n : ℕ) → 0 < n → Writes old new piece (Ok n) → Took old new (take n piece)
+took_some : (old new : SinkTold) (piece : List ℕ) (n : ℕ) → 0 < n → Writes old new piece (Ok n) → SinkTook old new (take n piece)
 took_some old new [] n some wrote = absurd (omega (arith, wrote.0))
 took_some old new (b ∷ piece) n some wrote =
     let test : (n == 0) ≡ false = grind (arith, nat_tests) in
@@ -47,8 +47,8 @@ took_nothing old new [] some wrote = absurd (omega arith)
 took_nothing old new (b ∷ piece) some wrote = wrote.1
 
 -- a write more
-pub wrote_more : (old mid new : SinkTold) (bytes front rest : List ℕ) (n : ℕ) → bytes ≡ front ++ rest → Took old mid front → 0 < n → Writes mid new rest (Ok n)
-    → (x : List ℕ) × (bytes ≡ x ++ drop n rest) × Took old new x
+pub wrote_more : (old mid new : SinkTold) (bytes front rest : List ℕ) (n : ℕ) → bytes ≡ front ++ rest → SinkTook old mid front → 0 < n → Writes mid new rest (Ok n)
+    → (x : List ℕ) × (bytes ≡ x ++ drop n rest) × SinkTook old new x
 wrote_more old mid new bytes front rest n e took some wrote = (
   front ++ take n rest,
   e ∙ ap (λ r. front ++ r) (sym (take-append-drop n rest)) ∙ sym (append_assoc front (take n rest) (drop n rest)),
@@ -61,7 +61,7 @@ pub wrote_none : (told : SinkTold) (line : List ℕ) (result : Result (Unit {0})
 wrote_none told line result some e = subst (WritesAll told told line) (sym e) ([], line, refl, some, told, took_none told, inr refl)
 
 -- a second piece is written
-pub writes_then : (a b c : SinkTold) (xs ys : List ℕ) (r : Result (Unit {0}) Fault) → Took a b xs → WritesAll b c ys r → WritesAll a c (xs ++ ys) r
+pub writes_then : (a b c : SinkTold) (xs ys : List ℕ) (r : Result (Unit {0}) Fault) → SinkTook a b xs → WritesAll b c ys r → WritesAll a c (xs ++ ys) r
 writes_then a b c xs ys (Ok x) took wrote = took_more a b c xs ys took wrote
 writes_then a b c xs ys (Err Failed) took (front, back, e, some, before, more, fails) =
     (xs ++ front, back, ap (λ l. xs ++ l) e ∙ sym (append_assoc xs front back), some, before, took_more a b before xs front took more, fails)

@@ -10,7 +10,7 @@ use Rattle.undo_outside.specs.Calls.{SinkTold}
 use Rattle.seal_log.specs.Journal.{frame, sealed, IsPayload}
 use Rattle.base_cut.specs.declared.fault.CutFault.{CutFault}
 use Rattle.base_cut.specs.declared.fault.CutFault.TheVariants.{Read, Sink, NoMemory}
-use Rattle.base_cut.specs.Writing.{PutsAll, Took, TookFront}
+use Rattle.base_cut.specs.Writing.{PutsAll, SinkTook, TookFront}
 use Rattle.base_cut.specs.Cutting.{IsRefused, IsUnwritten, Stops, Writes, WritesEach, WritesFirst, WritesFront, WritesSealed, WritesWhole, fault_of_write}
 use Rattle.base_cut.proofs.Streams.{longer, took_more, took_none}
 use Rattle.base_cut.proofs.Unfinished.{both_short, sealed_both, unfinished_behind, unfinished_frame}
@@ -39,7 +39,7 @@ front_before S a b xs ys w = record {
 }
 
 -- the first piece was, and the second was not
-abbrev pub front_behind : (S : SinkTold → SinkTold → Type 0) (a b c : SinkTold) (xs ys : List ℕ) → Took a b xs → TookFront S b c ys → TookFront S a c (xs ++ ys)
+abbrev pub front_behind : (S : SinkTold → SinkTold → Type 0) (a b c : SinkTold) (xs ys : List ℕ) → SinkTook a b xs → TookFront S b c ys → TookFront S a c (xs ++ ys)
 front_behind S a b c xs ys took w = record {
   front = xs ++ w.front;
   back = w.back;
@@ -51,7 +51,7 @@ front_behind S a b c xs ys took w = record {
 }
 
 -- the first piece was
-pub writes_behind : (a b c : SinkTold) (xs ys : List ℕ) (r : Result (Unit {0}) CutFault) → Took a b xs → Writes b c ys r → Writes a c (xs ++ ys) r
+pub writes_behind : (a b c : SinkTold) (xs ys : List ℕ) (r : Result (Unit {0}) CutFault) → SinkTook a b xs → Writes b c ys r → Writes a c (xs ++ ys) r
 writes_behind a b c xs ys (Ok x) took more = took_more a b c xs ys took more
 writes_behind a b c xs ys (Err fault) took w = front_behind (IsRefused fault) a b c xs ys took w
 
@@ -92,7 +92,7 @@ pub sealed_as : (p q : List ℕ) (a b : SinkTold) (r : Result (Unit {0}) CutFaul
 sealed_as p q a b r e wrote = subst (λ (x : List ℕ). WritesSealed (x ∷ []) a b r) e wrote
 
 pub sealed_one : (payload : List ℕ) (a b : SinkTold) (r : Result (Unit {0}) CutFault) → IsPayload payload → Writes a b (85 ∷ frame payload) r → WritesSealed (payload ∷ []) a b r
-sealed_one payload a b (Ok x) fits took = (subst (Took a b) (sym (append-nil (85 ∷ frame payload))) took, (fits, tt))
+sealed_one payload a b (Ok x) fits took = (subst (SinkTook a b) (sym (append-nil (85 ∷ frame payload))) took, (fits, tt))
 sealed_one payload a b (Err fault) fits w =
     (front_before (Stops fault) a b (85 ∷ frame payload) [] (front_stops fault a b (85 ∷ frame payload) w), unfinished_frame payload w.front w.back fits w.split)
 
@@ -101,14 +101,14 @@ pub sealed_none : (payload : List ℕ) (a : SinkTold) (fault : CutFault) → Sto
 sealed_none payload a fault stops = (nothing_written fault a (sealed (payload ∷ [])) stops (omega arith), inl refl)
 
 -- the first were written whole, and a first part of the others
-abbrev pub both_front : (ps qs : List (List ℕ)) (a b c : SinkTold) (fault : CutFault) → Took a b (sealed ps) → WritesFront fault b c (sealed qs) → WritesFront fault a c (sealed (ps ++ qs))
+abbrev pub both_front : (ps qs : List (List ℕ)) (a b c : SinkTold) (fault : CutFault) → SinkTook a b (sealed ps) → WritesFront fault b c (sealed qs) → WritesFront fault a c (sealed (ps ++ qs))
 both_front ps qs a b c fault took w =
     same_bytes (Stops fault) a c (sealed ps ++ sealed qs) (sealed (ps ++ qs)) (sym (sealed_both ps qs)) (front_behind (Stops fault) a b c (sealed ps) (sealed qs) took w)
 
 -- the first were written whole
 pub sealed_behind : (ps qs : List (List ℕ)) (a b c : SinkTold) (r : Result (Unit {0}) CutFault) → WritesSealed ps a b (Ok tt) → WritesSealed qs b c r → WritesSealed (ps ++ qs) a c r
 sealed_behind ps qs a b c (Ok x) first second =
-    (subst (Took a c) (sym (sealed_both ps qs)) (took_more a b c (sealed ps) (sealed qs) first.0 second.0), both_short ps qs first.1 second.1)
+    (subst (SinkTook a c) (sym (sealed_both ps qs)) (took_more a b c (sealed ps) (sealed qs) first.0 second.0), both_short ps qs first.1 second.1)
 sealed_behind ps qs a b c (Err fault) first second = (both_front ps qs a b c fault first.0 second.0, unfinished_behind ps second.0.front first.1 second.1)
 
 -- the first were not

@@ -1,7 +1,6 @@
 -- What a cut is: the records of a store whose past went into its base, as a journal. And what became of one that was written.
 use Rattle.std.specs.Prelude.{◌≡◌, ◌⊎◌, ◌<◌, ℕ, Bool, true, ◌&&◌, List, [], ◌∷◌, ◌++◌, length, map, is_some, unwrap_or, if◌then◌else◌, Result, Ok, Err}
 use Rattle.std.specs.List.{AllByRecursion, AllZip, list_all}
-use Rattle.std.specs.Int.{w32, to_be_bytes}
 use Rattle.undo_outside.specs.declared.fault.Fault.{Fault}
 use Rattle.undo_outside.specs.declared.fault.Fault.TheVariants as write
 use Rattle.undo_outside.specs.Calls.{SinkTold, FailsToWrite, WantsToWrite}
@@ -20,7 +19,7 @@ use Rattle.verb_bytes.specs.Spelling.{record_bytes}
 use Rattle.base_cut.specs.declared.fault.CutFault.{CutFault}
 use Rattle.base_cut.specs.declared.fault.CutFault.TheVariants.{Read, Sink, NoMemory}
 use Rattle.base_cut.specs.declared.parts.CutParts.{CutParts}
-use Rattle.base_cut.specs.Writing.{Took, TookFront}
+use Rattle.base_cut.specs.Writing.{SinkTook, TookFront}
 
 -- ---- the records
 
@@ -81,10 +80,6 @@ pub record AreCut (told : BodiesTold) (parts : CutParts) (payloads : List (List 
   pub texts_are : AllZip (IsTextOf told) parts.bodies texts
   pub kepts_are : AllZip (IsKeptOf told) parts.kept kepts
 
--- a text's length, and the text, between two parts
-abbrev pub parted : List ℕ → List ℕ → List ℕ → List ℕ
-parted front text back = front ++ (to_be_bytes w32 (length text) ++ (text ++ back))
-
 -- ---- the writing
 
 -- what of a journal that is written ends before its last gate: nothing, or behind some payloads an open gate whose frame and next
@@ -118,12 +113,12 @@ IsUnwritten NoMemory = Unit {0}
 
 -- bytes that are at hand were written whole, or a first part of them up to a write that was refused
 abbrev pub Writes : SinkTold → SinkTold → List ℕ → Result (Unit {0}) CutFault → Type 0
-Writes old new bytes (Ok x) = Took old new bytes
+Writes old new bytes (Ok x) = SinkTook old new bytes
 Writes old new bytes (Err fault) = TookFront (IsRefused fault) old new bytes
 
 -- what waits was written whole and waits no more, or waits still; or a first part of it was written, up to a write that was refused
 abbrev pub PassesOn : SinkTold → SinkTold → List ℕ → List ℕ → Result (Unit {0}) CutFault → Type 0
-PassesOn old new waiting left (Ok x) = (Took old new waiting × (left ≡ [])) ⊎ ((new ≡ old) × (left ≡ waiting))
+PassesOn old new waiting left (Ok x) = (SinkTook old new waiting × (left ≡ [])) ⊎ ((new ≡ old) × (left ≡ waiting))
 PassesOn old new waiting left (Err fault) = TookFront (IsRefused fault) old new waiting
 
 -- the sink took a first part of these bytes, and not all of them
@@ -132,7 +127,7 @@ WritesFront fault old new bytes = TookFront (Stops fault) old new bytes
 
 -- payloads were written whole, each of which has a frame; or a first part of them that is unfinished as a journal
 abbrev pub WritesSealed : List (List ℕ) → SinkTold → SinkTold → Result (Unit {0}) CutFault → Type 0
-WritesSealed payloads old new (Ok x) = Took old new (sealed payloads) × AllByRecursion IsPayload payloads
+WritesSealed payloads old new (Ok x) = SinkTook old new (sealed payloads) × AllByRecursion IsPayload payloads
 WritesSealed payloads old new (Err fault) = (wrote : WritesFront fault old new (sealed payloads)) × IsUnfinished wrote.front
 
 -- the same of a payload for each of these
@@ -151,12 +146,12 @@ HasBegun fault before new front = IsRefused fault before new ⊎ (0 < length fro
 
 -- the first payloads of a file were written so
 abbrev pub WritesFirst : List (List ℕ) → SinkTold → SinkTold → Result (Unit {0}) CutFault → Type 0
-WritesFirst payloads old new (Ok x) = Took old new (sealed payloads) × AllByRecursion IsPayload payloads
+WritesFirst payloads old new (Ok x) = SinkTook old new (sealed payloads) × AllByRecursion IsPayload payloads
 WritesFirst payloads old new (Err fault) = (wrote : WritesFront fault old new (sealed payloads)) × IsUnfinished wrote.front × HasBegun fault wrote.before new wrote.front
 
 -- the same of all of them, and the gate behind them
 abbrev pub WritesWhole : List (List ℕ) → SinkTold → SinkTold → Result (Unit {0}) CutFault → Type 0
-WritesWhole payloads old new (Ok x) = Took old new (closed_journal payloads) × AllByRecursion IsPayload payloads
+WritesWhole payloads old new (Ok x) = SinkTook old new (closed_journal payloads) × AllByRecursion IsPayload payloads
 WritesWhole payloads old new (Err fault) =
     (wrote : WritesFront fault old new (closed_journal payloads)) × IsUnfinished wrote.front × HasBegun fault wrote.before new wrote.front
 

@@ -1,7 +1,10 @@
 //! Payloads behind open gates, written as they come.
+//!
+//! The frames and gates of a cut's file are those of seal_log.
 ghost use Rattle.std.specs.Prelude.{◌≡◌, ◌<◌, ◌^◌, ◌++◌, ◌∷◌, [], IfErr, IfOk, length};
 ghost use Rattle.std.specs.Int.{to_be_bytes, w32};
-ghost use Rattle.base_cut.specs.Cutting.{IsUnread, Writes, WritesFirst, WritesSealed, parted};
+ghost use Rattle.base_cut.specs.Cutting.{IsUnread, Writes, WritesFirst, WritesSealed};
+ghost use Rattle.verb_bytes.specs.Holes.{parted};
 
 use crate::CutFault;
 use crate::fault::fault_of_write;

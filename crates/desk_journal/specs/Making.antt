@@ -60,8 +60,8 @@ pub record IsBegun (head : List ℕ) (old new : DiskTold) (log : Log) : Type 0 w
   pub within : last_gate log < new.size
 
 -- an empty disk, formatted with a first payload, with its last gate; or a call failed; or it found no memory
-abbrev pub Begins : List ℕ → DiskTold → DiskTold → Result Log MakeFault → Type 0
-Begins head old new (Ok log) = IsBegun head old new log
-Begins head old new (Err NotEmpty) = ⊥
-Begins head old new (Err Disk) = WriteFailed old new × FindsMemory old new
-Begins head old new (Err NoMemory) = SameFaults old new × FindsNone old new
+abbrev pub BeginsJournal : List ℕ → DiskTold → DiskTold → Result Log MakeFault → Type 0
+BeginsJournal head old new (Ok log) = IsBegun head old new log
+BeginsJournal head old new (Err NotEmpty) = ⊥
+BeginsJournal head old new (Err Disk) = WriteFailed old new × FindsMemory old new
+BeginsJournal head old new (Err NoMemory) = SameFaults old new × FindsNone old new

@@ -37,7 +37,6 @@ pub use new_texts::NewTexts;
 pub use on_disk::Journal;
 pub use past::Past;
 pub use read_texts::Reading;
-pub use seal::seal_bytes;
 pub use snapshot::snapshot_open;
 pub use spelling::{cycle_bytes, house_bytes, withdraw_bytes};
 pub use submit::submit_open;

@@ -1,11 +1,14 @@
 //! A desk on an empty disk.
+//!
+//! `can_begin` (what a Format record may hold) is the definition of house_text over what a configuration's text gives, so the two
+//! can't differ.
 ghost use Rattle.std.specs.Prelude.{◌≡◌, ◌<◌, ◌∷◌, [], Some, false, Ok, Err, OnOk, IsTrue, IfOk, IfErr};
 ghost use Rattle.verb_bytes.specs.declared.journal.JournalRecord.TheVariants.{Format};
 ghost use Rattle.verb_bytes.specs.Spelling.{record_bytes};
 ghost use Rattle.seal_log.specs.Log.{last_gate};
 ghost use Rattle.store_kept.specs.Kept.{new_desk};
 ghost use Rattle.house_text.specs.Beginning.{can_begin};
-ghost use Rattle.desk_journal.specs.Making.{Begins, LooksEmpty, Makes};
+ghost use Rattle.desk_journal.specs.Making.{BeginsJournal, LooksEmpty, Makes};
 ghost use Rattle.desk_journal.specs.Records.{state};
 
 use crate::MakeFault;
@@ -43,7 +46,7 @@ fn first_parts(alloc: Global, house: House, conf: Conf) -> Result<(mail_desk::De
 /// Formats an empty disk with a first record.
 fn begin<D: Disk>(alloc: Global, disk: &mut D, head: &Text) -> Result<Log, MakeFault>
     requires { (D.told disk.old).size ≡ 0 }
-    ensures { Begins head.now (D.told disk.old) (D.told disk.new) result }
+    ensures { BeginsJournal head.now (D.told disk.old) (D.told disk.new) result }
 {
     match format(alloc, disk, head.bytes()) {
         Ok(log) => Ok(log),
@@ -62,8 +65,8 @@ fn begin_with<D: Disk>(
 ) -> Result<(Log, mail_desk::Desk), MakeFault>
     requires { (D.told disk.old).size ≡ 0 }
     ensures desk { IfOk result (λ parts. parts.1 ≡ desk) }
-    ensures begun { IfOk result (λ parts. Begins head.now (D.told disk.old) (D.told disk.new) (Ok parts.0)) }
-    ensures why { IfErr result (λ fault. Begins head.now (D.told disk.old) (D.told disk.new) (Err fault)) }
+    ensures begun { IfOk result (λ parts. BeginsJournal head.now (D.told disk.old) (D.told disk.new) (Ok parts.0)) }
+    ensures why { IfErr result (λ fault. BeginsJournal head.now (D.told disk.old) (D.told disk.new) (Err fault)) }
 {
     match begin(alloc, disk, head) {
         Ok(log) => Ok((log, desk)),

@@ -1,9 +1,7 @@
 //! The journal on a disk.
-ghost use Rattle.std.specs.Prelude.{◌≡◌, ◌<◌, ◌+◌, ℕ, List, [], ◌∷◌, true, false, length, OnOk, OnErr, IsErrOf};
-ghost use Rattle.seal_log.specs.Causes.{SealWants};
+ghost use Rattle.std.specs.Prelude.{◌≡◌, ◌<◌, false, length};
 ghost use Rattle.seal_log.specs.Log.{last_gate};
-ghost use Rattle.seal_log.specs.Settled.{Holds, IsSettled};
-ghost use Rattle.desk_journal.specs.Sealing.{SealsPayloads};
+ghost use Rattle.desk_journal.specs.Submitting.{SealsBytes};
 
 use crate::past::Past;
 use seal_log::{Log, Place, SealFault};
@@ -74,20 +72,7 @@ impl<D: Disk> Journal<D> {
     /// Seals a payload.
     pub fn seal(&mut self, alloc: Global, payload: &Text) -> Result<(), SealFault>
         requires { self.old.closed ≡ false }
-        ensures ok { OnOk result (SealsPayloads (payload.now ∷ []) [] (D.told self.old.disk) (D.told self.new.disk) self.old.gate self.new.gate) }
-        ensures failed { IsErrOf result SealFault.Disk
-            → SealsPayloads [] (payload.now ∷ []) (D.told self.old.disk) (D.told self.new.disk) self.old.gate self.new.gate }
-        ensures no_memory { IsErrOf result SealFault.NoMemory
-            → SealsPayloads [] [] (D.told self.old.disk) (D.told self.new.disk) self.old.gate self.new.gate }
-        ensures reads { (D.told self.new.disk).failed_reads ≡ (D.told self.old.disk).failed_reads }
-        ensures wants { SealWants D.told self.old.disk self.new.disk result }
-        ensures not_closed { IsErrOf result SealFault.Closed → ⊥ }
-        ensures still_open { OnOk result (self.new.closed ≡ false) }
-        ensures open_again { IsErrOf result SealFault.NoMemory → self.new.closed ≡ false }
-        ensures closes { IsErrOf result SealFault.Disk → self.new.closed ≡ true }
-        ensures next { OnOk result (self.new.gate ≡ self.old.gate + 5 + length payload.now) }
-        ensures err { OnErr result (self.new.gate ≡ self.old.gate) }
-        ensures held { (payloads : List (List ℕ)) → IsSettled (D.told self.old.disk) self.old.gate payloads → Holds (D.told self.new.disk) payloads }
+        ensures { SealsBytes D.told payload.now self.old self.new result }
     {
         self.past.seal(alloc, &mut self.log, payload)
     }

@@ -8,10 +8,10 @@ ghost use Rattle.seal_log.specs.Settled.{Holds, IsSettled, ReadsAlone};
 ghost use Rattle.desk_journal.specs.Sealing.{SealsPayloads};
 ghost use Rattle.desk_journal.specs.Telling.{IsPastRead};
 
-use seal_log::{Log, Place, ReadFault, SealFault, read_before};
+use seal_log::{Log, Place, ReadFault, SealFault, read_before, unread};
 use std::alloc::Global;
 use std::marker::Model;
-use undo_base::Text;
+use undo_base::{PastText, Text};
 use undo_outside::Disk;
 
 /// A disk, and the gate at which the journal on it ends.
@@ -71,10 +71,8 @@ fn length_at<D: Disk>(disk: &mut D, place: u64) -> Result<u32, ReadFault>
     ensures cause { ReadAtCause (D.told disk.old) (D.told disk.new) result }
 {
     let mut bytes = [0; 4];
-    match disk.read(place, &mut bytes) {
-        Ok(()) => Ok(number_of(&bytes)),
-        Err(_) => Err(ReadFault::Disk),
-    }
+    disk.read(place, &mut bytes)?;
+    Ok(number_of(&bytes))
 }
 
 /// The number that four bytes spell.
@@ -140,6 +138,17 @@ impl<D: Disk> Past<D> {
         ensures still { IsPastRead D.told self.old self.new }
     {
         read_before(alloc, &mut self.disk, self.end, place, from, length)
+    }
+
+    /// A range of a payload that lies before the gate, as clauses see it: it is not read.
+    pub fn unread(&self, place: Place, from: u32, count: u32) -> PastText
+        requires place { place.gate + 5 + place.length ≤ self.now.end }
+        requires range { from + count ≤ place.length }
+        ensures count { length result ≡ count }
+        ensures payload { (payloads : List (List ℕ)) (payload : List ℕ) → Holds (D.told self.now.disk) payloads
+            → LiesAt payloads place.gate place.length payload → result ≡ slice_range payload from (from + count) }
+    {
+        unread(&self.disk, self.end, place, from, count)
     }
 
     /// The place of the payload behind a gate before the end, by the length in the four bytes there; none where it would go past the

@@ -1,4 +1,7 @@
 //! One record, sealed, and its item then entered.
+//!
+//! The records of a run are what `Seals` names, in order, and the one whose sealing failed, if one did. That one could stand too,
+//! so opening finds the journal with it or without it.
 ghost use Rattle.std.specs.Prelude.{◌≡◌, ◌+◌, ℕ, List, length, Some, false, IfOk, OnOk, OnErr};
 ghost use Rattle.verb_core.specs.Items.{text_in};
 ghost use Rattle.verb_bytes.specs.Places.{IsTextAt};
@@ -14,18 +17,6 @@ use std::alloc::Global;
 use undo_base::Text;
 use undo_outside::Disk;
 use verb_core::Item;
-
-/// Seals a payload.
-pub fn seal_bytes<D: Disk>(
-    alloc: Global,
-    journal: &mut Journal<D>,
-    bytes: &Text,
-) -> Result<(), SealFault>
-    requires { journal.old.closed ≡ false }
-    ensures { SealsBytes D.told bytes.now journal.old journal.new result }
-{
-    journal.seal(alloc, bytes)
-}
 
 /// Seals the record of an item for which all is ready, and then enters the item, and gives it back. Its text lies so far behind
 /// the front of the record.
@@ -49,7 +40,7 @@ pub fn seal_ready<D: Disk>(
 {
     desk.stands();
     let place = journal.next_place(bytes);
-    match seal_bytes(alloc, journal, bytes) {
+    match journal.seal(alloc, bytes) {
         Ok(()) => Ok(desk.enter(ready, place, from)),
         Err(fault) => {
             drop(ready);

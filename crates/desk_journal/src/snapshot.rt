@@ -1,4 +1,7 @@
 //! What the operator keeps of a moment: the store as it is, in a record of the journal, from which a later cycle can begin.
+//!
+//! POST /snapshot takes one at any time, also where nothing came since the last one. A desk that has counted as many as 64 bits
+//! hold finds no memory for one more.
 ghost use Rattle.std.specs.Prelude.{◌≡◌, false, length, IsTrue, IfOk, OnOk, IfErr, OnErr, IsErrOf};
 ghost use Rattle.verb_bytes.specs.Spelling.{record_bytes};
 ghost use Rattle.seal_log.specs.Causes.{SealWants};
@@ -11,7 +14,6 @@ ghost use Rattle.desk_journal.specs.Stored.{MarkedBefore, TextsNoted};
 ghost use Rattle.desk_journal.specs.Submitting.{SealsBytes, Snapshots, SnapshotsNone};
 
 use crate::on_disk::Journal;
-use crate::seal::seal_bytes;
 use box_store::rows_make_valid_stores;
 use seal_log::SealFault;
 use std::alloc::Global;
@@ -49,7 +51,7 @@ fn seal_snapshot<D: Disk>(
     ensures same { OnErr result (desk.new ≡ desk.old) }
 {
     let place = journal.next_place(bytes);
-    match seal_bytes(alloc, journal, bytes) {
+    match journal.seal(alloc, bytes) {
         Ok(()) => {
             desk.mark(place);
             Ok(())

@@ -1,26 +1,36 @@
 //! The bytes of records.
 ghost use Rattle.std.specs.Prelude.{◌≡◌, IsTrue, IfOk, OnOk};
 ghost use Rattle.verb_bytes.specs.declared.journal.JournalRecord.TheVariants.{Format, Verb, Operator, Cycle, Upgrade, Withdraw};
+ghost use Rattle.verb_bytes.specs.declared.journal.JournalRecord.{JournalRecord as TheRecord};
 ghost use Rattle.verb_bytes.specs.Spelling.{record_bytes};
+ghost use Rattle.verb_bytes.specs.Writing.{Encodes};
 ghost use Rattle.desk_journal.specs.Records.{is_spelled};
 
 use std::alloc::Global;
 use undo_base::{Copies, Name, NoMemory, Text};
 use verb_bytes::{
-    CycleAsk, JournalRecord, spell_act, spell_cycle, spell_item, spell_record, spell_upgrade,
-    spell_withdraw,
+    CycleAsk, JournalRecord, Unwritten, spell_act, spell_cycle, spell_item, spell_record,
+    spell_upgrade, spell_withdraw,
 };
 use verb_core::{Act, Conf, House, Item};
+
+/// Bytes that were written. Those of a record without a spelling find no memory.
+fn written(bytes: Result<Text, Unwritten>) -> Result<Text, NoMemory>
+    ensures spelled { (what : TheRecord) → Encodes what bytes → OnOk result (IsTrue (is_spelled what)) }
+    ensures bytes { (what : TheRecord) → Encodes what bytes → IfOk result (λ text. text ≡ record_bytes what) }
+{
+    match bytes {
+        Ok(bytes) => Ok(bytes),
+        Err(_) => Err(NoMemory),
+    }
+}
 
 /// The bytes of the record of a user's item. One without a spelling finds no memory.
 pub fn item_bytes(alloc: Global, item: &Item) -> Result<Text, NoMemory>
     ensures spelled { OnOk result (IsTrue (is_spelled (Verb item.now))) }
     ensures bytes { IfOk result (λ text. text ≡ record_bytes (Verb item.now)) }
 {
-    match spell_item(alloc, item) {
-        Ok(bytes) => Ok(bytes),
-        Err(_) => Err(NoMemory),
-    }
+    written(spell_item(alloc, item))
 }
 
 /// The same of an operator's act.
@@ -28,10 +38,7 @@ pub fn act_bytes(alloc: Global, number: u32, at: u64, act: &Act) -> Result<Text,
     ensures spelled { OnOk result (IsTrue (is_spelled (Operator number at act.now))) }
     ensures bytes { IfOk result (λ text. text ≡ record_bytes (Operator number at act.now)) }
 {
-    match spell_act(alloc, number, at, act) {
-        Ok(bytes) => Ok(bytes),
-        Err(_) => Err(NoMemory),
-    }
+    written(spell_act(alloc, number, at, act))
 }
 
 /// The same of a cycle.
@@ -39,10 +46,7 @@ pub fn cycle_bytes(alloc: Global, number: u32, at: u64, ask: &CycleAsk) -> Resul
     ensures spelled { OnOk result (IsTrue (is_spelled (Cycle number at ask.now))) }
     ensures bytes { IfOk result (λ text. text ≡ record_bytes (Cycle number at ask.now)) }
 {
-    match spell_cycle(alloc, number, at, ask) {
-        Ok(bytes) => Ok(bytes),
-        Err(_) => Err(NoMemory),
-    }
+    written(spell_cycle(alloc, number, at, ask))
 }
 
 /// The same of an upgrade.
@@ -50,10 +54,7 @@ pub fn upgrade_bytes(alloc: Global, at: u64) -> Result<Text, NoMemory>
     ensures spelled { OnOk result (IsTrue (is_spelled (Upgrade at))) }
     ensures bytes { IfOk result (λ text. text ≡ record_bytes (Upgrade at)) }
 {
-    match spell_upgrade(alloc, at) {
-        Ok(bytes) => Ok(bytes),
-        Err(_) => Err(NoMemory),
-    }
+    written(spell_upgrade(alloc, at))
 }
 
 /// The same of a withdrawal.
@@ -67,10 +68,7 @@ pub fn withdraw_bytes(
     ensures spelled { OnOk result (IsTrue (is_spelled (Withdraw number at key.now of))) }
     ensures bytes { IfOk result (λ text. text ≡ record_bytes (Withdraw number at key.now of)) }
 {
-    match spell_withdraw(alloc, number, at, key, of) {
-        Ok(bytes) => Ok(bytes),
-        Err(_) => Err(NoMemory),
-    }
+    written(spell_withdraw(alloc, number, at, key, of))
 }
 
 /// The bytes of a record, where it has a spelling.
@@ -78,10 +76,7 @@ fn record_text(alloc: Global, what: &JournalRecord) -> Result<Text, NoMemory>
     ensures spelled { OnOk result (IsTrue (is_spelled what.now)) }
     ensures bytes { IfOk result (λ text. text ≡ record_bytes what.now) }
 {
-    match spell_record(alloc, what) {
-        Ok(bytes) => Ok(bytes),
-        Err(_) => Err(NoMemory),
-    }
+    written(spell_record(alloc, what))
 }
 
 /// The first record.

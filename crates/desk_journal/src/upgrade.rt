@@ -1,4 +1,10 @@
 //! The upgrade of a store: from its record on names may have superiors.
+//!
+//! An upgrade raises no count of items, and draws no number: it can be done behind the last number. Whether a store is deep is in
+//! no snapshot and no digest, so `check` tells the same before and after. A second Upgrade record can't stand, and is told as
+//! damage at its gate.
+//!
+//! An Upgrade record behind a Base that is deep can't stand, as a second one can't.
 ghost use Rattle.std.specs.Prelude.{◌≡◌, false, OnOk, IfErr, OnErr, IsErrOf};
 ghost use Rattle.seal_log.specs.Causes.{SealWants};
 ghost use Rattle.store_kept.specs.Kept.{upgraded};
@@ -7,7 +13,6 @@ ghost use Rattle.desk_journal.specs.Stored.{MarkedBefore, TextsNoted};
 ghost use Rattle.desk_journal.specs.Submitting.{SealsBytes, Upgrades, UpgradesNone};
 
 use crate::on_disk::Journal;
-use crate::seal::seal_bytes;
 use crate::spelling::upgrade_bytes;
 use seal_log::SealFault;
 use std::alloc::Global;
@@ -28,7 +33,7 @@ fn seal_upgrade<D: Disk>(
     ensures marks { desk.new.marks ≡ desk.old.marks }
     ensures same { OnErr result (desk.new.kept ≡ desk.old.kept) }
 {
-    match seal_bytes(alloc, journal, bytes) {
+    match journal.seal(alloc, bytes) {
         Ok(()) => {
             desk.upgrade();
             Ok(())

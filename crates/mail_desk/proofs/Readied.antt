@@ -6,6 +6,10 @@ use Rattle.undo_base.specs.declared.memory.NoMemory.{NoMemory as MemoryWant}
 use Rattle.verb_core.specs.declared.ask.Ask.{Ask}
 use Rattle.verb_core.specs.declared.ask.Refused.{Refused}
 use Rattle.verb_core.specs.declared.ask.Refused.TheVariants.{NameShape, Fixed, NoBox, HasInferiors, TryCreate, Exists, Gone, TooMany, TooLarge, BoxesFull, UidWide, Numbers}
+use Rattle.verb_core.specs.declared.item.Act.TheVariants.{SetAlias, DropAlias, SetFilter, DropFilter, Remove, Give}
+use Rattle.verb_core.specs.declared.item.Deed.{Deed}
+use Rattle.verb_core.specs.declared.item.Deed.TheVariants.{Deliver, Append, Fetch, Store, Copy, List as Names, Status, Select, Expunge, Close, Create, Rename, Delete, Act as Acts, Notice}
+use Rattle.verb_core.specs.Deeds.{with_text}
 use Rattle.verb_core.specs.declared.item.Item.{Item}
 use Rattle.verb_core.specs.declared.item.Resolved.{Resolved}
 use Rattle.verb_core.specs.declared.item.Shown.{Shown}
@@ -15,13 +19,14 @@ use Rattle.verb_core.specs.Live.{asked_item, answered, asks_fixed, first_of, if_
 use Rattle.verb_core.specs.Stamps.{stamps_after}
 use Rattle.verb_core.specs.Step.{step, step_with}
 use Rattle.verb_core.specs.Store.{MailStore, IsValid}
-use Rattle.stored_items.specs.Stored.{step_text, stored, stored_deed}
+use Rattle.stored_items.specs.Stored.{looks_at_text, step_text, stored, stored_deed}
 use Rattle.box_store.specs.declared.effect.Effect.{Effect}
 use Rattle.box_store.specs.Effects.{IsEffect, IsReady, applied}
 use Rattle.box_store.specs.Kept.{sought_in}
+use Rattle.mail_desk.specs.declared.ready.Lying.{Lying}
 use Rattle.mail_desk.specs.declared.ready.Ready.{Ready}
 use Rattle.store_kept.specs.Kept.{store_of}
-use Rattle.mail_desk.specs.Entering.{CanEnter}
+use Rattle.mail_desk.specs.Entering.{CanEnter, ready_of}
 use Rattle.mail_desk.specs.Held.{Held}
 use Rattle.mail_desk.specs.Stamping.{HasSpare, restamped}
 
@@ -115,3 +120,40 @@ can_enter (Ok ready) held item formed number left is stored does shows stamps sp
   notes = notes;
 }
 can_enter (Err why) held item formed number left is stored does shows stamps spare effect items notes = tt
+
+-- ---- an item whose text lies elsewhere
+
+-- a deed looks at its text whatever it is
+pub looks_alike : (s : MailStore) (d : Deed) (text : List ℕ) → looks_at_text s (with_text text d) ≡ looks_at_text s d
+looks_alike s (Deliver from to own) text = refl
+looks_alike s (Append mailbox flags moment own) text = refl
+looks_alike s (Fetch mailbox keys sets_seen shows_body) text = refl
+looks_alike s (Store mailbox keys how flags) text = refl
+looks_alike s (Copy mailbox keys target) text = refl
+looks_alike s (Names pattern) text = refl
+looks_alike s (Status mailbox) text = refl
+looks_alike s (Select mailbox) text = refl
+looks_alike s (Expunge mailbox keys) text = refl
+looks_alike s (Close mailbox keys) text = refl
+looks_alike s (Create mailbox) text = refl
+looks_alike s (Rename mailbox target) text = refl
+looks_alike s (Delete mailbox keys) text = refl
+looks_alike s (Acts (SetAlias local users)) text = refl
+looks_alike s (Acts (DropAlias local)) text = refl
+looks_alike s (Acts (SetFilter filter)) text = refl
+looks_alike s (Acts (DropFilter id)) text = refl
+looks_alike s (Acts (Remove u mailbox key)) text = refl
+looks_alike s (Acts (Give u mailbox own)) text = refl
+looks_alike s (Notice user own) text = refl
+
+pub lying_enters : (r : Result Lying MemoryWant) (held : Held) (item : Item) → IsWellFormed held.kept.house item → item.number ≡ held.kept.next → held.kept.next < 4194304
+    → IfOk r (λ lying. lying.stored ≡ item)
+    → IfOk r (λ lying. applied lying.effect (store_of held.kept) ≡ (step (store_of held.kept) item).0)
+    → IfOk r (λ lying. lying.effect.shown ≡ (step (store_of held.kept) item).1)
+    → IfOk r (λ lying. restamped lying.stamps held.kept.stamps ≡ stamps_after item.number (step (store_of held.kept) item).0.boxes held.kept.stamps)
+    → IfOk r (λ lying. HasSpare lying.stamps (length held.kept.stamps))
+    → IfOk r (λ lying. IsReady lying.effect held.room.store)
+    → OnOk r (0 < held.room.items) → OnOk r (0 < held.room.notes)
+    → IfOk r (λ lying. CanEnter (ready_of lying) held)
+lying_enters (Ok lying) held item formed number left stored does shows stamps spare effect items notes = can_enter (Ok (ready_of lying)) held item formed number left stored stored does shows stamps spare effect items notes
+lying_enters (Err why) held item formed number left stored does shows stamps spare effect items notes = tt

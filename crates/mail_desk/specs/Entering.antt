@@ -4,6 +4,7 @@ use Rattle.verb_core.specs.Items.{IsWellFormed}
 use Rattle.verb_core.specs.Step.{step}
 use Rattle.verb_core.specs.Stamps.{stamps_after}
 use Rattle.box_store.specs.Effects.{IsReady, applied}
+use Rattle.mail_desk.specs.declared.ready.Lying.{Lying}
 use Rattle.mail_desk.specs.declared.ready.Ready.{Ready}
 use Rattle.store_kept.specs.Kept.{store_of}
 use Rattle.mail_desk.specs.Held.{Held}
@@ -23,3 +24,7 @@ pub record CanEnter (ready : Ready) (held : Held) : Type 0 where
   pub effect : IsReady ready.effect held.room.store
   pub items : 0 < held.room.items
   pub notes : 0 < held.room.notes
+
+-- an item whose text lies elsewhere, as one that is ready with its text
+abbrev pub ready_of : Lying → Ready
+ready_of lying = record { item = lying.stored; stored = lying.stored; effect = lying.effect; stamps = lying.stamps }

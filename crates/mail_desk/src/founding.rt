@@ -1,25 +1,27 @@
 //! A desk over a past that was cut off, while the records come that it begins with.
-ghost use Rattle.std.specs.Prelude.{◌≡◌, ℕ, ◌<◌, [], ◌++◌, ◌==◌, IfOk, IfSome, OnOk, IsTrue, Some, is_some, option_map, nat_lt, not, ◌&&◌};
+ghost use Rattle.std.specs.Prelude.{◌≡◌, ℕ, ◌<◌, ◌↔◌, false, [], ◌++◌, ◌==◌, IfOk, IfSome, OnOk, IsTrue, Some, is_some, option_map, nat_lt, not, ◌&&◌};
 ghost use Rattle.std.specs.List.{list_all, list_any};
 ghost use Rattle.std.specs.List.Sorted.{IsNonDecreasingBy, IsPermutation};
 ghost use Rattle.std.specs.Ordering.{eq_by_cmp};
 ghost use Rattle.verb_core.specs.declared.mailbox.Body.{Body as TheBody};
 ghost use Rattle.verb_core.specs.declared.mailbox.Entry.{Entry as TheEntry};
 ghost use Rattle.verb_core.specs.Boxes.{box_cmp};
+ghost use Rattle.stored_items.specs.Stored.{looks_at_text, whole};
+ghost use Rattle.verb_core.specs.Deeds.{is_notice};
 ghost use Rattle.verb_core.specs.Items.{IsWellFormed, text_in};
 ghost use Rattle.verb_core.specs.Step.{step};
 ghost use Rattle.verb_core.specs.Store.{IsValid, is_house, is_known};
 ghost use Rattle.box_store.specs.Effects.{IsReady, applied};
-ghost use Rattle.store_kept.specs.Founding.{base_stands, can_be_kept as may_be_kept, entries_of, founded, has_text_of, is_whole, names_body, names_number, text_stands as may_stand, with_item, with_text};
+ghost use Rattle.store_kept.specs.Founding.{base_stands, can_be_kept as may_be_kept, entries_of, founded, has_text_of, is_whole, names_body, names_number, store_based, text_stands as may_stand, with_item, with_text};
 ghost use Rattle.store_kept.specs.Naming.{is_named, texts_come};
 ghost use Rattle.store_kept.specs.Texts.{all_bodies};
 ghost use Rattle.mail_desk.specs.Founding.{are_stamps_of, based_of, begun_on, behind_named, numbers_named};
 ghost use Rattle.mail_desk.specs.Timeline.{NotesText, body_of};
 
 use crate::Desk;
-use crate::noting::note_text;
+use crate::noting::{note_stored, note_text};
 use crate::numbered::Numbered;
-use crate::ready::{apply_alone, effect_of, make_rooms};
+use crate::ready::{apply_alone, effect_lying, effect_of, make_rooms};
 use box_store::{Effect, Store, rows_make_valid_stores};
 use paradox::Report;
 use seal_log::Place;
@@ -29,7 +31,7 @@ use std::cmp::Ordering;
 use std::marker::Model;
 use store_kept::{Base, BaseTexts, Past, Reports};
 use stored_items::StoredItem;
-use undo_base::{Name, NoMemory, Text};
+use undo_base::{Name, NoMemory, PastText, Text};
 use verb_core::laws::{mail_is_kept, steps_keep_validity};
 use verb_core::{Body, BoxId, Conf, Entry, House, Item, Mailbox, Rows, Stamps};
 
@@ -252,6 +254,30 @@ fn made_room(
     effect_of(alloc, store, item, &stored)
 }
 
+/// The same of an item whose text lies elsewhere, and is not looked at.
+fn made_room_lying(
+    alloc: Global,
+    store: &mut Store,
+    timeline: &mut Numbered,
+    shelf: &mut Shelf,
+    item: &StoredItem,
+) -> Result<Effect, NoMemory>
+    requires valid { IsValid store.old.store }
+    requires formed { IsWellFormed store.old.store.house item.now }
+    requires unlooked { looks_at_text store.old.store item.now.deed ≡ false }
+    ensures store { store.new.store ≡ store.old.store }
+    ensures timeline { timeline.new.items ≡ timeline.old.items }
+    ensures shelf { shelf.new.notes ≡ shelf.old.notes }
+    ensures marks { shelf.new.marks ≡ shelf.old.marks }
+    ensures items { OnOk result (0 < timeline.new.room) }
+    ensures notes { OnOk result (0 < shelf.new.room) }
+    ensures does { IfOk result (λ effect. applied effect store.old.store ≡ (step store.old.store item.now).0) }
+    ensures ready { IfOk result (λ effect. IsReady effect store.new) }
+{
+    make_rooms(timeline, shelf)?;
+    effect_lying(alloc, store, item)
+}
+
 /// What a base has but for its texts: the house, the configuration at first, and the parts of its record.
 #[derive(Drop)]
 struct Begun {
@@ -412,11 +438,35 @@ impl Founding {
         ensures house { self.new.house ≡ self.old.house }
         ensures opening { self.new.opening ≡ self.old.opening }
     {
-        self.shelf.note_room(1)?;
-        self.past.texts.put(body, text);
-        self.shelf
-            .note(body, place, from, text.bytes().len() as u32);
-        Ok(())
+        self.text_lying(body, PastText::of(text), place, from)
+    }
+
+    /// The same of a text that lies elsewhere.
+    pub fn text_lying(
+        &mut self,
+        body: Body,
+        text: PastText,
+        place: Place,
+        from: u32,
+    ) -> Result<(), NoMemory>
+        requires { IsTrue (may_stand self.old.based body) }
+        ensures based { OnOk result (self.new.based ≡ with_text self.old.based body text) }
+        ensures notes { OnOk result (NotesText (Some text) body place from self.old.notes self.new.notes) }
+        ensures house { self.new.house ≡ self.old.house }
+        ensures opening { self.new.opening ≡ self.old.opening }
+    {
+        let size = text.len();
+        match self.shelf.note_room(1) {
+            Ok(()) => {
+                self.past.texts.put_lying(body, text);
+                self.shelf.note(body, place, from, size);
+                Ok(())
+            }
+            Err(NoMemory) => {
+                drop(text);
+                Err(NoMemory)
+            }
+        }
     }
 
     /// Keeps an item behind those before it, whose text, where it has one, lies so far behind the front of the payload at a place.
@@ -451,6 +501,54 @@ impl Founding {
             }
             Err(NoMemory) => {
                 drop(item);
+                Err(NoMemory)
+            }
+        }
+    }
+
+    /// Whether no filter is in force in the store that the items left. It takes no memory.
+    pub fn is_unfiltered(&self) -> bool
+        ensures { IsTrue result ↔ ((store_based self.now.house self.now.based).conf.filters ≡ []) }
+    {
+        self.store.conf().filters.is_empty()
+    }
+
+    /// Keeps an item whose text lies elsewhere, and is not looked at.
+    pub fn keep_lying(
+        &mut self,
+        alloc: Global,
+        item: Item,
+        text: PastText,
+        place: Place,
+        from: u32,
+    ) -> Result<(), NoMemory>
+        requires formed { IsWellFormed self.old.house (whole item text) }
+        requires may { IsTrue (may_be_kept self.old.based (whole item text)) }
+        requires notice { is_notice item.deed ≡ false }
+        requires unlooked { looks_at_text (store_based self.old.house self.old.based) item.deed ≡ false }
+        ensures based { OnOk result (self.new.based ≡ with_item self.old.based (whole item text)) }
+        ensures notes { OnOk result (NotesText (text_in (whole item text).deed) (body_of (whole item text)) place from self.old.notes self.new.notes) }
+        ensures house { self.new.house ≡ self.old.house }
+        ensures opening { self.new.opening ≡ self.old.opening }
+    {
+        rows_make_valid_stores();
+        steps_keep_validity();
+        let stored = StoredItem::lying(alloc, item, text);
+        match made_room_lying(
+            alloc,
+            &mut self.store,
+            &mut self.timeline,
+            &mut self.shelf,
+            &stored,
+        ) {
+            Ok(effect) => {
+                drop(apply_alone(&mut self.store, effect));
+                note_stored(&mut self.shelf, &stored, place, from);
+                self.timeline.put(stored);
+                Ok(())
+            }
+            Err(NoMemory) => {
+                drop(stored);
                 Err(NoMemory)
             }
         }

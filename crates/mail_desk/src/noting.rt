@@ -1,4 +1,16 @@
 //! Where the texts that items bring lie, and how long they are.
+//!
+//! The timeline keeps items without their texts; the shelf knows of each text the record's place, from where in its payload, and
+//! how long it is. A notice keeps its text, since no record holds it, and is noted with its cycle's place, from 0, for its size
+//! alone.
+//!
+//! A cycle makes the notes anew, for the new timeline alone. Each body has the note that it had, or that of the cycle's own
+//! record, whose place is known before it is sealed (the last gate, and the record's length). Nothing of a dropped or replaced
+//! text stays but for what a withdrawal can bring back. Where a note is missing or has another length than the item knows, no
+//! memory is found, which never comes: so no premise on a disk is needed.
+//!
+//! The texts of items that can come back stay noted, beside those of the items in force. That of an item whose text the cycle
+//! replaced has its own note, under its own rev.
 ghost use Rattle.std.specs.Prelude.{◌≡◌, ◌<◌, [], ◌∷◌, ◌++◌, length, option_map, Some, None, IfOk, OnOk, if◌then◌else◌};
 ghost use Rattle.std.specs.List.{AllByRecursion};
 ghost use Rattle.std.specs.List.Sorted.{IsPermutation};
@@ -15,9 +27,8 @@ ghost use Rattle.mail_desk.specs.Timeline.{NotesText, SizesOf, body_of};
 use seal_log::Place;
 use shelf::{Note, Shelf};
 use std::alloc::Global;
-use store_kept::PastText;
 use stored_items::StoredItem;
-use undo_base::NoMemory;
+use undo_base::{NoMemory, PastText};
 use verb_core::{Body, Item};
 
 /// The place of a cycle's own record, and where in it the texts lie that the cycle brings, by their bodies.
@@ -45,6 +56,17 @@ pub(crate) fn note_text(shelf: &mut Shelf, item: &Item, place: Place, from: u32)
 {
     if let Some(text) = item.deed.text() {
         shelf.note(body_by(item), place, from, text.bytes().len() as u32);
+    }
+}
+
+/// The same of an item whose text lies elsewhere.
+pub(crate) fn note_stored(shelf: &mut Shelf, item: &StoredItem, place: Place, from: u32)
+    requires { 0 < shelf.old.room }
+    ensures notes { NotesText (text_in item.now.deed) (body_of item.now) place from shelf.old.notes shelf.new.notes }
+    ensures marks { shelf.new.marks ≡ shelf.old.marks }
+{
+    if let Some(size) = item.size() {
+        shelf.note(body_in(item), place, from, size);
     }
 }
 
@@ -116,10 +138,8 @@ fn push_sized(
     ensures noted { OnOk result (IsNotedBy old.now.notes fresh.now item.now) }
 {
     let note = of_length(found_note(old, fresh, item, size), size)?;
-    match rows.push((body_in(item), note)) {
-        Ok(()) => Ok(()),
-        Err(_) => Err(NoMemory),
-    }
+    rows.push((body_in(item), note))?;
+    Ok(())
 }
 
 /// Adds the body of the text that an item brings, where it brings one.
@@ -159,10 +179,8 @@ fn push_old(rows: &mut NotedBodies, old: &Shelf, body: Body, size: u32) -> Resul
     ensures { OnOk result ((found : TheNote) × (note_of old.now.notes body ≡ Some found) × (found.length ≡ size) × (rows.new.items ≡ rows.old.items ++ (body, found) ∷ [])) }
 {
     let note = of_length(old.find(body), size)?;
-    match rows.push((body, note)) {
-        Ok(()) => Ok(()),
-        Err(_) => Err(NoMemory),
-    }
+    rows.push((body, note))?;
+    Ok(())
 }
 
 /// Adds the body of a text that comes with a base, once it has come.

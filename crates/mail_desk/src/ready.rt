@@ -1,23 +1,28 @@
 //! Items that are asked for: found, made ready, and entered.
-ghost use Rattle.std.specs.Prelude.{◌≡◌, ℕ, ◌<◌, ◌↔◌, map, IsTrue, IsSome, IfOk, IfErr, OnOk, Ok, length, []};
+//!
+//! The desk makes its copy of an item and room in the timeline before it performs the item: where no memory is found nothing has
+//! changed. A delivery changes no name of a mailbox, so the code leaves the stamps as they are, and it is proved that they are
+//! those of the definition.
+ghost use Rattle.std.specs.Prelude.{◌≡◌, ℕ, ◌<◌, ◌↔◌, map, IsTrue, IsSome, IfOk, IfErr, OnOk, Ok, false, length, []};
 ghost use Rattle.std.specs.List.{list_all, cons_option};
 ghost use Rattle.verb_core.specs.declared.mailbox.BoxId.{BoxId as TheBoxId};
 ghost use Rattle.verb_core.specs.declared.mailbox.Mailbox.{Mailbox as TheMailbox};
+ghost use Rattle.verb_core.specs.Deeds.{is_notice};
 ghost use Rattle.verb_core.specs.Items.{IsWellFormed, text_in};
 ghost use Rattle.verb_core.specs.Stamps.{stamps_after};
 ghost use Rattle.store_kept.specs.Kept.{performed, store_of};
 ghost use Rattle.verb_core.specs.Live.{is_users, live};
 ghost use Rattle.verb_core.specs.Step.{step};
 ghost use Rattle.verb_core.specs.Store.{IsValid, is_known};
-ghost use Rattle.stored_items.specs.Stored.{step_text};
+ghost use Rattle.stored_items.specs.Stored.{looks_at_text, step_text, whole};
 ghost use Rattle.box_store.specs.Effects.{IsReady, applied};
 ghost use Rattle.box_store.specs.Refusing.{IsRefusal};
-ghost use Rattle.mail_desk.specs.Entering.{CanEnter};
+ghost use Rattle.mail_desk.specs.Entering.{CanEnter, ready_of};
 ghost use Rattle.mail_desk.specs.Stamping.{HasSpare, restamped};
 ghost use Rattle.mail_desk.specs.Timeline.{NotesText, body_of};
 
 use crate::Desk;
-use crate::noting::note_text;
+use crate::noting::{note_stored, note_text};
 use crate::numbered::Numbered;
 use crate::restamp::{StampChanges, stamp_changes};
 use crate::stamps::change_stamps;
@@ -29,8 +34,8 @@ use std::marker::Brand;
 use std::sync::ledger::{Blank, Ledger};
 use store_kept::laws::what_can_come_back_stays;
 use stored_items::StoredItem;
-use stored_items::laws::{stored_items_are_formed, stored_items_do_alike};
-use undo_base::{NoMemory, User};
+use stored_items::laws::{stored_items_are_formed, stored_items_do_alike, texts_are_not_looked_at};
+use undo_base::{NoMemory, PastText, User};
 use verb_core::laws::{mail_is_kept, stamps_name_mailboxes, steps_keep_validity};
 use verb_core::{Ask, Item, Refused, Shown, Stamps};
 
@@ -128,6 +133,24 @@ pub(crate) fn effect_of(
 {
     stored_items_do_alike();
     ready_effect(alloc, store, stored, item.deed.text_bytes())
+}
+
+/// Makes what an item does whose text lies elsewhere, and is not looked at; and all room that the store needs for it.
+pub(crate) fn effect_lying(
+    alloc: Global,
+    store: &mut Store,
+    stored: &StoredItem,
+) -> Result<Effect, NoMemory>
+    requires valid { IsValid store.old.store }
+    requires formed { IsWellFormed store.old.store.house stored.now }
+    requires unlooked { looks_at_text store.old.store stored.now.deed ≡ false }
+    ensures same { store.new.store ≡ store.old.store }
+    ensures ready { IfOk result (λ effect. IsReady effect store.new) }
+    ensures does { IfOk result (λ effect. applied effect store.old.store ≡ (step store.old.store stored.now).0) }
+    ensures shows { IfOk result (λ effect. effect.shown ≡ (step store.old.store stored.now).1) }
+{
+    texts_are_not_looked_at();
+    ready_effect(alloc, store, stored, &[])
 }
 
 /// Applies an effect over a counter that is made of the blank ledger.
@@ -323,6 +346,115 @@ fn make_ready(
     }
 }
 
+/// An item whose text lies elsewhere, which a desk can enter with no memory taken.
+#[derive(Drop)]
+struct Lying {
+    stored: StoredItem,
+    effect: Effect,
+    stamps: Option<StampChanges>,
+}
+
+/// An item whose text lies elsewhere, with what it changes of the stamps, and what it does.
+fn lying_over(
+    alloc: Global,
+    store: &mut Store,
+    stored: StoredItem,
+    stamps: Option<StampChanges>,
+) -> Result<Lying, NoMemory>
+    requires valid { IsValid store.old.store }
+    requires formed { IsWellFormed store.old.store.house stored }
+    requires unlooked { looks_at_text store.old.store stored.deed ≡ false }
+    ensures store { store.new.store ≡ store.old.store }
+    ensures stored { IfOk result (λ ready. ready.stored ≡ stored) }
+    ensures does { IfOk result (λ ready. applied ready.effect store.old.store ≡ (step store.old.store stored).0) }
+    ensures shows { IfOk result (λ ready. ready.effect.shown ≡ (step store.old.store stored).1) }
+    ensures same { IfOk result (λ ready. ready.stamps ≡ stamps) }
+    ensures effect { IfOk result (λ ready. IsReady ready.effect store.new) }
+{
+    match effect_lying(alloc, store, &stored) {
+        Ok(effect) => Ok(Lying {
+            stored,
+            effect,
+            stamps,
+        }),
+        Err(NoMemory) => {
+            drop(stored);
+            drop(stamps);
+            Err(NoMemory)
+        }
+    }
+}
+
+/// Makes what an item does whose text lies elsewhere, with all room that the store needs for it.
+fn make_lying(
+    alloc: Global,
+    store: &mut Store,
+    stamps: &Stamps,
+    item: Item,
+    text: PastText,
+) -> Result<Lying, NoMemory>
+    requires valid { IsValid store.old.store }
+    requires formed { IsWellFormed store.old.store.house (whole item text) }
+    requires named { map (λ (r : TheBoxId × ℕ). r.0) stamps.now ≡ map (λ (r : TheBoxId × TheMailbox). r.0) store.old.store.boxes }
+    requires notice { is_notice item.deed ≡ false }
+    requires unlooked { looks_at_text store.old.store item.deed ≡ false }
+    ensures store { store.new.store ≡ store.old.store }
+    ensures stored { IfOk result (λ ready. ready.stored ≡ whole item text) }
+    ensures does { IfOk result (λ ready. applied ready.effect store.old.store ≡ (step store.old.store (whole item text)).0) }
+    ensures shows { IfOk result (λ ready. ready.effect.shown ≡ (step store.old.store (whole item text)).1) }
+    ensures stamps { IfOk result (λ ready. restamped ready.stamps stamps.now ≡ stamps_after item.number (step store.old.store (whole item text)).0.boxes stamps.now) }
+    ensures spare { IfOk result (λ ready. HasSpare ready.stamps (length stamps.now)) }
+    ensures effect { IfOk result (λ ready. IsReady ready.effect store.new) }
+{
+    texts_are_not_looked_at();
+    match stamp_changes(alloc, store, stamps, &item) {
+        Ok(changed) => lying_over(alloc, store, StoredItem::lying(alloc, item, text), changed),
+        Err(NoMemory) => {
+            drop(item);
+            drop(text);
+            Err(NoMemory)
+        }
+    }
+}
+
+/// Makes all ready for such an item.
+fn make_ready_lying(
+    alloc: Global,
+    store: &mut Store,
+    stamps: &Stamps,
+    timeline: &mut Numbered,
+    shelf: &mut Shelf,
+    item: Item,
+    text: PastText,
+) -> Result<Lying, NoMemory>
+    requires valid { IsValid store.old.store }
+    requires formed { IsWellFormed store.old.store.house (whole item text) }
+    requires named { map (λ (r : TheBoxId × ℕ). r.0) stamps.now ≡ map (λ (r : TheBoxId × TheMailbox). r.0) store.old.store.boxes }
+    requires notice { is_notice item.deed ≡ false }
+    requires unlooked { looks_at_text store.old.store item.deed ≡ false }
+    ensures store { store.new.store ≡ store.old.store }
+    ensures timeline { timeline.new.items ≡ timeline.old.items }
+    ensures shelf { shelf.new.notes ≡ shelf.old.notes }
+    ensures marks { shelf.new.marks ≡ shelf.old.marks }
+    ensures stored { IfOk result (λ ready. ready.stored ≡ whole item text) }
+    ensures does { IfOk result (λ ready. applied ready.effect store.old.store ≡ (step store.old.store (whole item text)).0) }
+    ensures shows { IfOk result (λ ready. ready.effect.shown ≡ (step store.old.store (whole item text)).1) }
+    ensures stamps { IfOk result (λ ready. restamped ready.stamps stamps.now ≡ stamps_after item.number (step store.old.store (whole item text)).0.boxes stamps.now) }
+    ensures spare { IfOk result (λ ready. HasSpare ready.stamps (length stamps.now)) }
+    ensures effect { IfOk result (λ ready. IsReady ready.effect store.new) }
+    ensures items { OnOk result (0 < timeline.new.room) }
+    ensures notes { OnOk result (0 < shelf.new.room) }
+{
+    match make_rooms(timeline, shelf) {
+        Ok(()) => make_lying(alloc, store, stamps, item, text),
+        Err(NoMemory) => {
+            drop(item);
+            drop(text);
+            Err(NoMemory)
+        }
+    }
+}
+
 impl Desk {
     /// The item that is asked for now, or why there is none.
     fn asked(&self, alloc: Global, at: u64, by: Option<User>, ask: Ask) -> Result<Item, Refused>
@@ -422,5 +554,81 @@ impl Desk {
         self.next += 1;
         self.since += 1;
         (item, shown)
+    }
+
+    /// Makes all room for an item whose text lies elsewhere, and is not looked at.
+    fn ready_lying(&mut self, alloc: Global, item: Item, text: PastText) -> Result<Lying, NoMemory>
+        requires formed { IsWellFormed self.old.kept.house (whole item text) }
+        requires number { item.number ≡ self.old.kept.next }
+        requires left { self.old.kept.next < 4194304 }
+        requires notice { is_notice item.deed ≡ false }
+        requires unlooked { looks_at_text (store_of self.old.kept) item.deed ≡ false }
+        ensures kept { self.new.kept ≡ self.old.kept }
+        ensures notes { self.new.notes ≡ self.old.notes }
+        ensures marks { self.new.marks ≡ self.old.marks }
+        ensures item { IfOk result (λ ready. ready.stored ≡ whole item text) }
+        ensures ready { IfOk result (λ ready. CanEnter (ready_of ready) self.new) }
+    {
+        make_ready_lying(
+            alloc,
+            &mut self.store,
+            &self.stamps,
+            &mut self.timeline,
+            &mut self.shelf,
+            item,
+            text,
+        )
+    }
+
+    /// Enters such an item, whose text lies so far behind the front of the payload at a place.
+    fn put_lying(&mut self, ready: Lying, place: Place, from: u32)
+        requires { CanEnter (ready_of ready) self.old }
+        ensures kept { self.new.kept ≡ performed self.old.kept ready.stored }
+        ensures notes { NotesText (text_in ready.stored.deed) (body_of ready.stored) place from self.old.notes self.new.notes }
+        ensures marks { self.new.marks ≡ self.old.marks }
+    {
+        let Lying {
+            stored,
+            effect,
+            stamps,
+        } = ready;
+        steps_keep_validity();
+        stamps_name_mailboxes();
+        mail_is_kept();
+        what_can_come_back_stays();
+        drop(apply_alone(&mut self.store, effect));
+        change_stamps(&mut self.stamps, stamps);
+        note_stored(&mut self.shelf, &stored, place, from);
+        self.timeline.push(stored);
+        self.next += 1;
+        self.since += 1;
+    }
+
+    /// Enters an item whose text is not looked at, and lies so far behind the front of the payload at a place. It stands here with
+    /// none.
+    pub fn enter_lying(
+        &mut self,
+        alloc: Global,
+        item: Item,
+        text: PastText,
+        place: Place,
+        from: u32,
+    ) -> Result<(), NoMemory>
+        requires formed { IsWellFormed self.old.kept.house (whole item text) }
+        requires number { item.number ≡ self.old.kept.next }
+        requires left { self.old.kept.next < 4194304 }
+        requires notice { is_notice item.deed ≡ false }
+        requires unlooked { looks_at_text (store_of self.old.kept) item.deed ≡ false }
+        ensures kept { OnOk result (self.new.kept ≡ performed self.old.kept (whole item text)) }
+        ensures notes { OnOk result (NotesText (text_in (whole item text).deed) (body_of (whole item text)) place from self.old.notes self.new.notes) }
+        ensures marks { self.new.marks ≡ self.old.marks }
+    {
+        match self.ready_lying(alloc, item, text) {
+            Ok(ready) => {
+                self.put_lying(ready, place, from);
+                Ok(())
+            }
+            Err(NoMemory) => Err(NoMemory),
+        }
     }
 }

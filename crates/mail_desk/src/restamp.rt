@@ -1,4 +1,11 @@
 //! What an item changes of the stamps, made ahead: as much as it touches.
+//!
+//! What an item changes of the stamps is made ahead, as long as what it touches. A CREATE, RENAME or DELETE has a change for each
+//! mailbox that comes, goes or gets a name, and every other item none. Contracts do not see what room the list of stamps has. So
+//! each of these items also makes a list of twice the length, of which nothing is written unless later stamps are set aside there
+//! or the stamps have no room left. Then they move there, which happens once for each doubling. A CREATE stamps each superior
+//! that it makes. A RENAME gives its number to the mailbox, to each inferior under its new name, and to each superior that it
+//! makes. A mailbox that is emptied and stays for its inferiors keeps its stamp.
 ghost use Rattle.std.specs.Prelude.{◌≡◌, ◌≤◌, ◌+◌, ℕ, List, [], ◌∷◌, ◌++◌, length, map, vec_capacity, IfOk, OnOk, if◌then◌else◌};
 ghost use Rattle.verb_core.specs.declared.mailbox.BoxId.{BoxId as TheBoxId};
 ghost use Rattle.verb_core.specs.declared.mailbox.Mailbox.{Mailbox as TheMailbox};
@@ -47,10 +54,8 @@ type Changes = Vec<StampChange>;
 fn push_change(list: &mut Changes, change: StampChange) -> Result<(), NoMemory>
     ensures { OnOk result (list.new.items ≡ list.old.items ++ change ∷ []) }
 {
-    match list.push(change) {
-        Ok(()) => Ok(()),
-        Err(_) => Err(NoMemory),
-    }
+    list.push(change)?;
+    Ok(())
 }
 
 // ---- mailboxes that come

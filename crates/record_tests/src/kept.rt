@@ -19,30 +19,30 @@ const BASE_FIELDS: &[usize] = &[
 ];
 
 /// The text hi of the body 2 and 7.
-const TEXT: &[u8] = b"\x09\x00\x00\x00\x02\x00\x00\x00\x07\x00\x00\x00\x02hi";
+pub(crate) const TEXT: &[u8] = b"\x09\x00\x00\x00\x02\x00\x00\x00\x07\x00\x00\x00\x02hi";
 
 const TEXT_FIELDS: &[usize] = &[0, 1, 5, 9];
 
 /// The item 5 with rev 7, the APPEND of hi by user 0, which went to Lost+Found.
-const KEPT: &[u8] =
+pub(crate) const KEPT: &[u8] =
     b"\x0a\x00\x00\x00\x05\x00\x00\x00\x00A\xde\x5d\xa0\x00\x00\x00\x00\x07\x02\x02in\x08\x00\x00\x00\x00A\xde\x5d\xa0\x00\x00\x00\x02hi\x06\x01";
 
 const KEPT_FIELDS: &[usize] = &[0, 1, 5, 13, 14, 18, 19, 22, 23, 31, 37, 38];
 
 /// The item 5 with rev 7: user 1 is given hi.
-const KEPT_ACT: &[u8] =
+pub(crate) const KEPT_ACT: &[u8] =
     b"\x0a\x00\x00\x00\x05\x00\x00\x00\x00A\xde\x5d\xa0\xff\x00\x00\x00\x07\x0e\x06\x01\x02in\x00\x00\x00\x02hi\x00";
 
 const KEPT_ACT_FIELDS: &[usize] = &[0, 1, 5, 13, 14, 18, 19, 20, 21, 24, 30];
 
 /// The item 5: the notice hi to user 1.
-const KEPT_NOTICE: &[u8] =
+pub(crate) const KEPT_NOTICE: &[u8] =
     b"\x0a\x00\x00\x00\x05\x00\x00\x00\x00A\xde\x5d\xa0\xff\x00\x00\x00\x00\x0f\x01\x00\x00\x00\x02hi\x00";
 
 const KEPT_NOTICE_FIELDS: &[usize] = &[0, 1, 5, 13, 14, 18, 19, 20, 26];
 
 /// The item 5 with rev 7: the delivery of hi from joe to ann.
-const KEPT_DELIVERY: &[u8] =
+pub(crate) const KEPT_DELIVERY: &[u8] =
     b"\x0a\x00\x00\x00\x05\x00\x00\x00\x00A\xde\x5d\xa0\xff\x00\x00\x00\x07\x01\x00\x00\x00\x03joe\x00\x00\x00\x01\x03ann\x00\x00\x00\x02hi\x00";
 
 const KEPT_DELIVERY_FIELDS: &[usize] = &[0, 1, 5, 13, 14, 18, 19, 26, 30, 34, 40];

@@ -8,18 +8,18 @@ use Rattle.seal_log.proofs.Frames.{stands_before, stands_after, front_before, fr
 use Rattle.seal_log.proofs.Torn.{torn_behind, torn_byte, written_behind, written_byte}
 
 -- the payloads, a gate that is not open, and what stands behind it
-pub record Ends (image : List ℕ) (payloads : List (List ℕ)) : Type 0 where
+pub record HasClosedGate (image : List ℕ) (payloads : List (List ℕ)) : Type 0 where
   pub gate : ℕ
   pub rest : List ℕ
   pub split : image ≡ sealed payloads ++ gate ∷ rest
   pub shut : gate ≢ 85
   pub short : AllByRecursion IsPayload payloads
 
-ends_by : (image : List ℕ) (payloads : List (List ℕ)) (rest : List ℕ) → image ≡ sealed payloads ++ rest → BeginsClosed rest → AllByRecursion IsPayload payloads → Ends image payloads
+ends_by : (image : List ℕ) (payloads : List (List ℕ)) (rest : List ℕ) → image ≡ sealed payloads ++ rest → BeginsClosed rest → AllByRecursion IsPayload payloads → HasClosedGate image payloads
 ends_by image payloads [] split closed short = absurd closed
 ends_by image payloads (gate ∷ rest) split closed short = record { gate = gate; rest = rest; split = split; shut = closed; short = short }
 
-pub ends : (image : List ℕ) (payloads : List (List ℕ)) → StandsFor image payloads → Ends image payloads
+pub ends : (image : List ℕ) (payloads : List (List ℕ)) → StandsFor image payloads → HasClosedGate image payloads
 ends image payloads stands = ends_by image payloads stands.rest stands.split stands.closed stands.short
 
 -- the same, with a frame and a closed gate behind the gate

@@ -4,3 +4,4 @@ pub mod Loads
 pub mod Log
 pub mod Settled
 pub mod Causes
+pub mod Unread

@@ -14,9 +14,9 @@ use Rattle.seal_log.specs.Settled.{Holds, IsSettled}
 
 -- Behind the payloads an open gate stands whose frame and next gate are not within the image. Or a gate stands there that is not
 -- open, behind one payload at least, and the disk is settled there.
-abbrev pub Ends : Bool → DiskTold → ℕ → List (List ℕ) → List ℕ → Type 0
-Ends true disk gate payloads rest = BeginsCut rest
-Ends false disk gate payloads rest = BeginsClosed rest × (0 < length payloads) × IsSettled disk gate payloads
+abbrev pub EndsJournal : Bool → DiskTold → ℕ → List (List ℕ) → List ℕ → Type 0
+EndsJournal true disk gate payloads rest = BeginsCut rest
+EndsJournal false disk gate payloads rest = BeginsClosed rest × (0 < length payloads) × IsSettled disk gate payloads
 
 -- The image begins with payloads, these are their places, each image of the disk begins with them, and so they end.
 pub record IsSurveyed (image : List ℕ) (disk : DiskTold) (gate : ℕ) (places : List Place) (is_cut : Bool) : Type 0 where
@@ -27,7 +27,7 @@ pub record IsSurveyed (image : List ℕ) (disk : DiskTold) (gate : ℕ) (places 
   pub gate_is : gate ≡ length (sealed payloads)
   pub places_are : places ≡ places_from 0 payloads
   pub held : Holds disk payloads
-  pub ends : Ends is_cut disk gate payloads rest
+  pub ends : EndsJournal is_cut disk gate payloads rest
 
 -- what a survey says of the image that was there, and of the disk that is left
 abbrev pub Surveys : List ℕ → DiskTold → Result Survey LoadFault → Type 0

@@ -32,6 +32,16 @@ pub enum LoadFault {
     NoMemory,
 }
 
+impl From<NoMemory> for SealFault {
+    ghost use Rattle.seal_log.specs.declared.fault.SealFault.TheVariants.{NoMemory as no_memory};
+
+    ghost from_gives = { λ _ e. e ≡ no_memory };
+
+    fn from(_: NoMemory) -> Self {
+        SealFault::NoMemory
+    }
+}
+
 impl From<NoMemory> for ReadFault {
     ghost use Rattle.seal_log.specs.declared.fault.ReadFault.TheVariants.{NoMemory as no_memory};
 
@@ -39,6 +49,16 @@ impl From<NoMemory> for ReadFault {
 
     fn from(_: NoMemory) -> Self {
         ReadFault::NoMemory
+    }
+}
+
+impl From<Failed> for ReadFault {
+    ghost use Rattle.seal_log.specs.declared.fault.ReadFault.TheVariants.{Disk};
+
+    ghost from_gives = { λ _ e. e ≡ Disk };
+
+    fn from(_: Failed) -> Self {
+        ReadFault::Disk
     }
 }
 

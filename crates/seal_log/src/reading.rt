@@ -41,8 +41,6 @@ pub fn read_before<D: Disk>(
     ensures only_reads { ReadsAlone (D.told disk.old) (D.told disk.new) }
 {
     let mut bytes = blank(alloc, length)?;
-    match disk.read(place.gate + 5 + u64::from(from), &mut bytes) {
-        Ok(()) => Ok(Text::from_vec(bytes)),
-        Err(_) => Err(ReadFault::Disk),
-    }
+    disk.read(place.gate + 5 + u64::from(from), &mut bytes)?;
+    Ok(Text::from_vec(bytes))
 }

@@ -111,7 +111,7 @@ pub does_with_own : (s : MailStore) (i : Item) (text : List ℕ) → text ≡ un
 does_with_own s i text is = ap (step_text s i) is
 
 -- a text that performing does not look at is any text
-unneeded : (s : MailStore) (one other : List ℕ) (by : Option User) (d : Deed) → needs_text d ≡ false → sought s one by d ≡ sought s other by d
+pub unneeded : (s : MailStore) (one other : List ℕ) (by : Option User) (d : Deed) → needs_text d ≡ false → sought s one by d ≡ sought s other by d
 unneeded s one other by (Deliver from to text) none = absurd (true≢false none)
 unneeded s one other by (Append mailbox flags moment text) none = refl
 unneeded s one other by (Fetch mailbox keys sets_seen shows_body) none = refl

@@ -1,4 +1,5 @@
 pub mod Whole
 pub mod Alike
 pub mod Heard
+pub mod Unlooked
 mod Rows

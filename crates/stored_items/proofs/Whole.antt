@@ -110,3 +110,41 @@ still_notice text (Acts (DropFilter id)) = refl
 still_notice text (Acts (Remove u mailbox key)) = refl
 still_notice text (Acts (Give u mailbox old)) = refl
 still_notice text (Notice user old) = refl
+
+-- a deed that is kept without its text has another text whole
+given_kept : (text : List ℕ) (d : Deed) → with_text text (stored_deed d) ≡ with_text text d
+given_kept text (Deliver from to old) = refl
+given_kept text (Append mailbox flags moment old) = refl
+given_kept text (Acts (Give u mailbox old)) = refl
+given_kept text (Notice user old) = refl
+given_kept text (Fetch mailbox keys sets_seen shows_body) = refl
+given_kept text (Store mailbox keys how flags) = refl
+given_kept text (Copy mailbox keys target) = refl
+given_kept text (Names pattern) = refl
+given_kept text (Status mailbox) = refl
+given_kept text (Select mailbox) = refl
+given_kept text (Expunge mailbox keys) = refl
+given_kept text (Close mailbox keys) = refl
+given_kept text (Create mailbox) = refl
+given_kept text (Rename mailbox target) = refl
+given_kept text (Delete mailbox keys) = refl
+given_kept text (Acts (SetAlias local users)) = refl
+given_kept text (Acts (DropAlias local)) = refl
+given_kept text (Acts (SetFilter filter)) = refl
+given_kept text (Acts (DropFilter id)) = refl
+given_kept text (Acts (Remove u mailbox key)) = refl
+
+-- an item that is kept without its text stands for the item with another text
+pub lies_whole : (i : Item) (text : List ℕ) → whole (stored i) text ≡ whole i text
+lies_whole i text = ap (λ (d : Deed). record i { deed = d }) (given_kept text i.deed)
+
+-- and is that item as it is kept
+kept_given : (text : List ℕ) (d : Deed) → is_notice d ≡ false → stored_deed d ≡ stored_deed (with_text text d)
+kept_given text d fails =
+    sym (text_let_go d fails) ∙ sym (text_anew text [] d) ∙ text_let_go (with_text text d) (sym (still_notice text d) ∙ fails)
+
+pub lies_kept : (i : Item) (text : List ℕ) → is_notice i.deed ≡ false → stored i ≡ stored (whole i text)
+lies_kept i text fails = ap (λ (d : Deed). record i { deed = d }) (kept_given text i.deed fails)
+
+pub lying_is_kept : (i : Item) (text : List ℕ) → is_notice i.deed ≡ false → stored i ≡ stored (whole (stored i) text)
+lying_is_kept i text fails = lies_kept i text fails ∙ ap stored (sym (lies_whole i text))

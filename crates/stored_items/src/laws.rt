@@ -12,7 +12,7 @@ ghost use Rattle.verb_core.specs.Deeds.{deed_word, is_notice, mailbox_in};
 ghost use Rattle.verb_core.specs.Items.{IsTimeline, IsWellFormed, NumbersApart, actor, has_form, is_own, keys_in, text_in, users_in};
 ghost use Rattle.verb_core.specs.Step.{step, step_with};
 ghost use Rattle.verb_core.specs.Store.{MailStore};
-ghost use Rattle.stored_items.specs.Stored.{AllHeard, IsHeard, needs_text, step_text, stored, stored_deed};
+ghost use Rattle.stored_items.specs.Stored.{AllHeard, IsHeard, looks_at_text, needs_text, step_text, stored, stored_deed, whole};
 
 /// A deed that is kept without its text has everything else.
 pub fn stored_deeds_are_alike()
@@ -42,6 +42,16 @@ pub fn stored_items_do_alike()
     ensures with_own { (s : MailStore) (i : Item) (text : List ℕ) → text ≡ unwrap_or (text_in i.deed) [] → step_text s i text ≡ step s i }
     ensures with_any { (s : MailStore) (i : Item) (text : List ℕ) → needs_text i.deed ≡ false → step_text s i text ≡ step s i }
     ensures as_heard { (s : MailStore) (i h : Item) → IsHeard i h → step s h ≡ step_text s i (unwrap_or (text_in h.deed) []) }
+{}
+
+/// Where no filter is in force an item does what it does, whatever text is looked at, and whatever its own is.
+pub fn texts_are_not_looked_at()
+    ensures sought { (s : MailStore) (one other : List ℕ) (by : Option User) (d : Deed) → looks_at_text s d ≡ false
+        → sought_in s one by d ≡ sought_in s other by d }
+    ensures does { (s : MailStore) (i : Item) (text : List ℕ) → looks_at_text s i.deed ≡ false → step_text s i text ≡ step s i }
+    ensures with_any { (s : MailStore) (i : Item) (own text : List ℕ) → looks_at_text s i.deed ≡ false
+        → step_text s i text ≡ step s (whole i own) }
+    ensures heard { (s : MailStore) (i h : Item) → looks_at_text s i.deed ≡ false → IsHeard i h → step s h ≡ step s i }
 {}
 
 /// Items as they were read are as many, with the same numbers, and form a timeline where those do that were stored.

@@ -1,16 +1,12 @@
 //! Items as they are kept in memory: without their texts, which are read from the journal when they are asked for.
 //!
-//! `recalling` has what was once in memory, as clauses see it, and takes no bytes. `past` has such a text with its length;
-//! `stored` an item whose text is such, so that contracts speak of whole items. `laws` has what an item has and does without its
-//! text. What carries the crate: a `StoredItem` stands for a whole item, and `StoredItem::item` shows it without its text.
+//! `stored` has an item whose text is a `PastText`, so that contracts speak of whole items. `laws` has what an item has and does
+//! without its text. What carries the crate: a `StoredItem` stands for a whole item, and `StoredItem::item` shows it without its text.
 #![tactic(auto)]
 
 pub mod laws;
-mod past;
-mod recalling;
 mod stored;
 
-pub use recalling::Recalled;
 pub use stored::StoredItem;
 use undo_base::Sequence;
 

@@ -4,10 +4,9 @@ ghost use Rattle.verb_core.specs.Deeds.{is_notice, with_text};
 ghost use Rattle.verb_core.specs.Items.{text_in};
 ghost use Rattle.stored_items.specs.Stored.{stored as is_stored, stored_deed, whole};
 
-use crate::past::PastText;
 use std::alloc::Global;
 use std::marker::Model;
-use undo_base::{Copies, NoMemory, Text};
+use undo_base::{Copies, NoMemory, PastText, Text};
 use verb_core::{Act, Body, Deed, Item, Shown};
 
 /// An item as it is kept in memory: without its text, but for a notice's. It stands for the whole item.
@@ -59,6 +58,17 @@ impl StoredItem {
         let text = recalled(alloc, &item.deed);
         clear(alloc, &mut item.deed);
         StoredItem { item, text }
+    }
+
+    /// An item with a text that lies elsewhere, where it has one. No memory is taken.
+    #[tactic(auto, using(crate::proofs::Whole::lying_is_kept, crate::proofs::Whole::lies_whole))]
+    pub fn lying(alloc: Global, item: Item, text: PastText) -> StoredItem
+        requires { is_notice item.deed ≡ false }
+        ensures { result ≡ whole item text }
+    {
+        let mut bare = item;
+        clear(alloc, &mut bare.deed);
+        StoredItem { item: bare, text }
     }
 
     /// A copy of an item, but for its text.

@@ -1,11 +1,16 @@
 -- What an audit finds, and whether records are true.
-use Rattle.std.proofs.Common.{◌≡◌, ℕ, ◌+◌, Bool, true, false, ◌&&◌, cond, List, [], ◌∷◌, length, Option, Some, None, refl, sym, ap, ◌∙◌}
+use Rattle.std.proofs.Common.{◌≡◌, ℕ, ◌+◌, ◌≤◌, Bool, true, false, ◌&&◌, cond, List, [], ◌∷◌, length, Option, Some, None, Result, Ok, Err, IfOk, IfErr, refl, sym, ap, subst, ◌∙◌}
 use Rattle.std.specs.Prelude.{option_and_then, if◌then◌else◌}
 use Rattle.std.specs.Option.{option_map_or}
 use Rattle.verb_bytes.specs.declared.journal.JournalRecord.{JournalRecord}
 use Rattle.verb_bytes.specs.Spelling.{record_bytes}
+use Rattle.undo_outside.specs.Calls.{Rose}
+use Rattle.undo_outside.specs.Disk.{DiskTold}
+use Rattle.seal_log.specs.declared.fault.ReadFault.{ReadFault}
+use Rattle.seal_log.specs.Causes.{ReadAtCause}
 use Rattle.seal_log.specs.Journal.{sealed}
 use Rattle.store_kept.specs.Kept.{Kept}
+use Rattle.desk_journal.specs.Lasting.{PastTold}
 use Rattle.desk_journal.specs.Records.{after_record, after_records, all_true, are_true, behind, front, is_true, opening_state, payloads_of, state}
 use Rattle.time_desk.specs.Auditing.{false_record, first_false}
 
@@ -35,3 +40,38 @@ audit_settles records kept is = by (opening_state (front records)) is
         → Settles (option_and_then (λ (k : Kept). first_false k (length (sealed (payloads_of (front records)))) (behind records)) o) (option_map_or (λ (k : Kept). all_true k (behind records)) o true)
     by None is = absurd (cc is)
     by (Some first) is = all_settle (behind records) first kept (length (sealed (payloads_of (front records)))) is
+
+-- ---- with the front read whole
+
+-- what is found stands where the front was read
+pub still_found : {T : Type 0} (result found : Result T ReadFault) (P : T → Type 0) → IfOk result (λ x. found ≡ Ok x) → IfOk found P → IfOk result P
+still_found {T} (Ok x) found P same is = subst (λ (r : Result T ReadFault). IfOk r P) same is
+still_found (Err fault) found P same is = tt
+
+-- no read failed before
+joined : {T : Type 0} (old mid new : DiskTold) (result : Result T ReadFault) → mid.failed_reads ≡ old.failed_reads → mid.is_reliable ≡ old.is_reliable
+    → ReadAtCause mid new result → ReadAtCause old new result
+joined old mid new (Ok x) count reliable cause = record {
+  ok = cause.ok ∙ count;
+  disk = λ is. absurd (cc is);
+  no_memory = λ is. absurd (cc is);
+}
+joined old mid new (Err fault) count reliable cause = record {
+  ok = tt;
+  disk = λ is.
+      let failed = cause.disk is in
+      (subst (λ n. Rose n new.failed_reads) count failed.0, subst (λ n. new.failed_reads ≤ n + 1) count failed.1, failed.2, sym reliable ∙ failed.3);
+  no_memory = λ is. cause.no_memory is ∙ count;
+}
+
+-- the cause of what the records behind the front are found to be, and of the front's being read
+pub cause_with_front : {D T : Type 0} (told : D → DiskTold) (old begun mid new : PastTold D) (found result : Result T ReadFault)
+    → (told begun.disk).failed_reads ≡ (told old.disk).failed_reads → (told begun.disk).is_reliable ≡ (told old.disk).is_reliable
+    → (told mid.disk).is_reliable ≡ (told begun.disk).is_reliable → ReadAtCause (told begun.disk) (told mid.disk) found
+    → IfOk found (λ x. ReadAtCause (told mid.disk) (told new.disk) result) → IfErr found (λ fault. (result ≡ Err fault) × (new ≡ mid))
+    → ReadAtCause (told old.disk) (told new.disk) result
+cause_with_front told old begun mid new (Ok x) result count reliable still cause read same =
+    joined (told old.disk) (told mid.disk) (told new.disk) result (cause.ok ∙ count) (still ∙ reliable) read
+cause_with_front {D} {T} told old begun mid new (Err fault) result count reliable still cause read same =
+    subst (λ (r : Result T ReadFault). ReadAtCause (told old.disk) (told new.disk) r) (sym same.0) (
+    subst (λ (p : PastTold D). ReadAtCause {T = T} (told old.disk) (told p.disk) (Err fault)) (sym same.1) (joined (told old.disk) (told begun.disk) (told mid.disk) (Err fault) count reliable cause))

@@ -84,7 +84,7 @@ pub record Left (all : List (List ℕ)) (places : List Place) (i : ℕ) (first n
   pub same : first_false first gate records ≡ first_false now (length (sealed seen)) rest
 
 -- the next of them, at a place
-pub record IsNext (all : List (List ℕ)) (places : List Place) (i : ℕ) (first now kept : Kept) (gate : ℕ) (records : List JournalRecord) (place : Place) : Type 0 where
+pub record IsNextRecord (all : List (List ℕ)) (places : List Place) (i : ℕ) (first now kept : Kept) (gate : ℕ) (records : List JournalRecord) (place : Place) : Type 0 where
   pub what : JournalRecord
   pub spelled : HasSpelling what
   pub lies : LiesAt all place.gate place.length (record_bytes what)
@@ -146,14 +146,14 @@ pub first_left : (before : List (List ℕ)) (places : List Place) (first kept : 
 first_left before places first kept records are leaves = record { seen = before; rest = records; split = refl; places_are = are; leaves = leaves; same = refl }
 
 pub next_left : (all : List (List ℕ)) (places : List Place) (i : ℕ) (d : Place) (first now kept : Kept) (gate : ℕ) (records : List JournalRecord) → i < length places → Left all places i first now kept gate records
-    → IsNext all places i first now kept gate records (get_or places i d)
+    → IsNextRecord all places i first now kept gate records (get_or places i d)
 next_left all places i d first now kept gate records below left = by left.rest left.split (sym (drop_at places i d below) ∙ left.places_are) left.leaves left.same
   where
     place : Place
     place = get_or places i d
 
     by : (rs : List JournalRecord) → all ≡ left.seen ++ payloads_of rs → place ∷ drop (i + 1) places ≡ places_from (length (sealed left.seen)) (payloads_of rs) → after_records now rs ≡ Some kept
-        → first_false first gate records ≡ first_false now (length (sealed left.seen)) rs → IsNext all places i first now kept gate records place
+        → first_false first gate records ≡ first_false now (length (sealed left.seen)) rs → IsNextRecord all places i first now kept gate records place
     by [] split are leaves same = absurd (cc are)
     by (what ∷ rs) split are leaves same =
         let here : place ≡ record { gate = length (sealed left.seen); length = length (record_bytes what) } = cc are in

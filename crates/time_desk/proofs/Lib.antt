@@ -32,3 +32,4 @@ pub mod CutParts
 pub mod Judging
 pub mod Places
 pub mod Unread
+pub mod Headed

@@ -53,7 +53,7 @@ use Rattle.verb_core.specs.declared.bodies.BodiesFault.{BodiesFault}
 use Rattle.verb_core.specs.declared.bodies.BodiesFault.TheVariants as bodies_faults
 use Rattle.time_desk.specs.declared.fault.CycleFault.{CycleFault}
 use Rattle.time_desk.specs.declared.fault.CycleFault.TheVariants as cycle_faults
-use Rattle.time_desk.specs.Cycling.{CanBeUndone, CanRework, Cycles, CyclesAs, CyclesBy, CyclesNone, IsCycleOutcomeOf, IsCycled, IsFit, IsTold, Redoes, RedoesCause, RedoesCycle, RenotesAs, Reworks, RunsOutOfMemoryBy, Tries, TriesNone, after_rewound, asked_then, most_begun, most_reworked, most_tried}
+use Rattle.time_desk.specs.Cycling.{CanBeUndone, CanRework, Cycles, CyclesAs, CyclesBy, CyclesNone, IsCycleOutcomeOf, IsCycled, IsFit, IsTold, Redoes, RedoesCause, RedoesCycle, RenotesAs, Reworks, RunsOutOfMemoryBy, Tries, TriesNone, after_rewound, asked_then, most_begun, most_reworked, most_tried, refused_by}
 use Rattle.time_desk.specs.Planning.{BodiesCause}
 use Rattle.time_desk.specs.Replaying.{DeliversOn, ToldOr, cycle_reads, delivered_told, repair_reads, some_marked, some_stored}
 use Rattle.std.specs.Option.{option_map_or}
@@ -294,6 +294,11 @@ reworks_none told held t old mid steps result fault why is fault_is cause marked
       any = omega arith;
       steps = tt;
     })
+
+-- a repair was not worked out for one of two causes
+pub by_cause : (fault : BodiesFault) (refused : CycleRefused) (P : CycleRefused → Type 0) → refused ≡ refused_by fault → (fault ≡ bodies_faults.Failed → P refusals.Disk) → (fault ≡ bodies_faults.NoMemory → P refusals.NoMemory) → P refused
+by_cause bodies_faults.Failed refused P is failed wanting = subst P (sym is) (failed refl)
+by_cause bodies_faults.NoMemory refused P is failed wanting = subst P (sym is) (wanting refl)
 
 -- a fault by another name
 pub reworks_as : {D : Type 0} (told : D → DiskTold) (held : Held) (t : Task) (old new : PastTold D) (before after : ℕ) (fault why : BodiesFault) → fault ≡ why → Reworks told held t old new before after (Err fault)

@@ -54,8 +54,8 @@ abbrev pub BeginsOpen : Kept → Type 0
 BeginsOpen kept = kept.base ≡ opening kept.house kept.opening
 
 -- what holds of what is kept, and of its texts
-abbrev pub Holds : Kept → Type 0
-Holds kept = IsSound kept × RevsBelow kept × HasUndoneTexts kept
+abbrev pub StateHolds : Kept → Type 0
+StateHolds kept = IsSound kept × RevsBelow kept × HasUndoneTexts kept
 
 -- nothing can come back of what a journal opens with
 first_back : (kept : Kept) → kept.undone ≡ None → HasUndoneTexts kept
@@ -100,7 +100,7 @@ item_sound kept i sound formed number = record {
 }
 
 -- an item that can follow is well formed, and has the next number
-follows_formed : (kept : Kept) (i : Item) → can_follow kept i ≡ true → IsWellFormed kept.house i × (i.number ≡ kept.next)
+pub follows_formed : (kept : Kept) (i : Item) → can_follow kept i ≡ true → IsWellFormed kept.house i × (i.number ≡ kept.next)
 follows_formed kept i can =
     let parts = and_parts ((i.number == kept.next) && nat_lt kept.next 4194304) (is_formed kept.house i) can in
     (formed_is kept.house i parts.1, eqb-true i.number kept.next (and_parts (i.number == kept.next) (nat_lt kept.next 4194304) parts.0).0)
@@ -370,10 +370,10 @@ records_stay (r ∷ rs) kept new sound is none = elim (after_record kept r) as (
 -- ---- a journal
 
 -- what its records leave
-pub state_holds : (rs : List JournalRecord) (kept : Kept) → state rs ≡ Some kept → Holds kept
+pub state_holds : (rs : List JournalRecord) (kept : Kept) → state rs ≡ Some kept → StateHolds kept
 state_holds rs kept is = by (opening_state (front rs)) refl is
   where
-    by : (o : Option Kept) → opening_state (front rs) ≡ o → option_and_then (λ (k : Kept). after_records k (behind rs)) o ≡ Some kept → Holds kept
+    by : (o : Option Kept) → opening_state (front rs) ≡ o → option_and_then (λ (k : Kept). after_records k (behind rs)) o ≡ Some kept → StateHolds kept
     by None e is = absurd (cc is)
     by (Some first) e is =
         let held = front_sound (front rs) first e in

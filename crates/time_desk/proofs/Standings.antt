@@ -14,7 +14,10 @@ use Rattle.std.specs.Int.{w32, to_be_bytes}
 use Rattle.verb_bytes.specs.declared.journal.JournalRecord.{JournalRecord}
 use Rattle.verb_bytes.specs.declared.journal.JournalRecord.TheVariants.{Snapshot, Upgrade}
 use Rattle.verb_bytes.specs.Spelling.{HasSpelling, Spells, record_bytes}
+use Rattle.undo_outside.specs.Disk.{DiskTold}
+use Rattle.seal_log.specs.Causes.{ReadAtCause}
 use Rattle.seal_log.specs.declared.fault.ReadFault.{ReadFault}
+use Rattle.seal_log.specs.declared.fault.ReadFault.TheVariants as read_faults
 use Rattle.seal_log.specs.declared.place.Place.{Place}
 use Rattle.mail_desk.specs.Held.{Held}
 use Rattle.seal_log.specs.Journal.{frame, sealed, LiesAt}
@@ -28,7 +31,7 @@ use Rattle.verb_core.specs.Names.{is_empty}
 use Rattle.desk_journal.specs.Founding.{behind, goes_on, is_behind, opening_state, when_over}
 use Rattle.desk_journal.specs.Records.{after_item, after_kept, after_record, after_records, can_follow, can_keep, is_true, payloads_of, snapshot_record, state}
 use Rattle.time_desk.specs.Opening.{can_come}
-use Rattle.time_desk.specs.Standing.{BreaksFor, Enters, Fails, FailsPayload, FailsReading, FrontBreaksFor, LeadsTo, Opens, Performed, Performs, SpellsAll, SpellsNothing, StopsFor, kept_as}
+use Rattle.time_desk.specs.Standing.{BreaksFor, Enters, Fails, FailsPayload, FailsReading, FrontBreaksFor, LeadsTo, Opens, Performed, Performs, ReadCounts, SpellsAll, SpellsNothing, StopsFor, fault_of_read, kept_as}
 
 -- ---- one record more
 
@@ -77,6 +80,22 @@ stops kept mid gate at first after payloads payload NoMemory led split at_is fai
 pub if_ok : {T E : Type 0} (r : Result T E) (P Q : T → Type 0) → ((x : T) → P x → Q x) → IfOk r P → IfOk r Q
 if_ok (Ok x) P Q more h = more x h
 if_ok (Err e) P Q more h = h
+
+-- ---- payloads that were not read
+
+-- where a read failed it is counted
+pub unread_counts : {T : Type 0} (old new : DiskTold) (fault : ReadFault) → ReadAtCause {T = T} old new (Err fault) → ReadCounts old new (fault_of_read fault)
+unread_counts old new read_faults.Disk cause = cause.disk refl
+unread_counts old new read_faults.NoMemory cause = cause.no_memory refl
+
+-- and nothing is told of a gate
+pub unread_fails : (none : Type 0) (gate : ℕ) (fault : ReadFault) → FailsReading none gate (fault_of_read fault)
+unread_fails none gate read_faults.Disk = tt
+unread_fails none gate read_faults.NoMemory = tt
+
+pub unread_spells : (payload : List ℕ) (gate : ℕ) (fault : ReadFault) → SpellsNothing payload gate (fault_of_read fault)
+unread_spells payload gate read_faults.Disk = tt
+unread_spells payload gate read_faults.NoMemory = tt
 
 -- more is said of why a call gave nothing
 pub if_err : {T E : Type 0} (r : Result T E) (P Q : E → Type 0) → ((e : E) → P e → Q e) → IfErr r P → IfErr r Q

@@ -11,7 +11,7 @@ use Rattle.seal_log.specs.Causes.{SameCounts}
 use Rattle.seal_log.specs.declared.place.Place.{Place}
 use Rattle.seal_log.specs.Journal.{frame, sealed, BeginsClosed, IsPayload, StandsFor}
 use Rattle.seal_log.specs.Loading.{BeginsCut, places_from}
-use Rattle.seal_log.specs.Loads.{Ends, IsSurveyed}
+use Rattle.seal_log.specs.Loads.{EndsJournal, IsSurveyed}
 use Rattle.seal_log.specs.Settled.{IsSettled, ReadsAlone}
 use Rattle.store_kept.specs.Kept.{Kept}
 use Rattle.time_desk.specs.declared.fault.StartFault.{StartFault}
@@ -27,7 +27,7 @@ use Rattle.desk_journal.proofs.Staying.{settled_on}
 
 -- ---- images
 
-some_rest : (is_cut : Bool) (disk : DiskTold) (gate : ℕ) (payloads : List (List ℕ)) (rest : List ℕ) → Ends is_cut disk gate payloads rest → 0 < length rest
+some_rest : (is_cut : Bool) (disk : DiskTold) (gate : ℕ) (payloads : List (List ℕ)) (rest : List ℕ) → EndsJournal is_cut disk gate payloads rest → 0 < length rest
 some_rest true disk gate payloads [] ends = absurd ends
 some_rest true disk gate payloads (b ∷ rest) ends = omega arith
 some_rest false disk gate payloads rest ends = some_closed rest ends.0
@@ -78,7 +78,7 @@ module _ (image : List ℕ) (disk : DiskTold) (gate : ℕ) (places : List Place)
   in_base : (is_cut : Bool) (seen : IsSurveyed image disk gate places is_cut) (place : ℕ) → BreaksInBase is_cut seen.payloads place → IsDamaged image place
   in_base is_cut seen place b = by b.others b.split b.over
     where
-      closed_rest : (cut : Bool) → cut ≡ false → Ends cut disk gate seen.payloads seen.rest → BeginsClosed seen.rest
+      closed_rest : (cut : Bool) → cut ≡ false → EndsJournal cut disk gate seen.payloads seen.rest → BeginsClosed seen.rest
       closed_rest true e ends = absurd (cc e)
       closed_rest false e ends = ends.0
 
@@ -121,7 +121,7 @@ module _ (image : List ℕ) (disk : DiskTold) (gate : ℕ) (places : List Place)
     bad = inl (cut_rest is_cut b.is_cut seen.ends);
   })
     where
-      cut_rest : (cut : Bool) → cut ≡ true → Ends cut disk gate seen.payloads seen.rest → BeginsCut seen.rest
+      cut_rest : (cut : Bool) → cut ≡ true → EndsJournal cut disk gate seen.payloads seen.rest → BeginsCut seen.rest
       cut_rest true e ends = ends
       cut_rest false e ends = absurd (cc e)
 
@@ -176,7 +176,7 @@ module _ (image : List ℕ) (disk : DiskTold) (gate : ℕ) (places : List Place)
   pub cut_first : (is_cut : Bool) → IsSurveyed image disk gate places is_cut → places ≡ [] → IsDamaged image gate
   cut_first is_cut seen none = by_cases is_cut seen.payloads seen.split (sym seen.places_are ∙ none) seen.gate_is seen.ends
     where
-      by_cases : (cut : Bool) (payloads : List (List ℕ)) → image ≡ sealed payloads ++ seen.rest → places_from 0 payloads ≡ [] → gate ≡ length (sealed payloads) → Ends cut disk gate payloads seen.rest → IsDamaged image gate
+      by_cases : (cut : Bool) (payloads : List (List ℕ)) → image ≡ sealed payloads ++ seen.rest → places_from 0 payloads ≡ [] → gate ≡ length (sealed payloads) → EndsJournal cut disk gate payloads seen.rest → IsDamaged image gate
       by_cases cut (p ∷ ps) split none gate_is ends = absurd (cc none)
       by_cases true [] split none gate_is ends =
           inl (record { records = []; fore = None; is_fore = refl; rest = image; split = refl; short = tt; place_is = gate_is; bad = inl (subst BeginsCut (sym split) ends) })

@@ -3,6 +3,7 @@ use Rattle.std.specs.Prelude.{◌≡◌, ◌⊎◌, ◌≤◌, ◌+◌, ◌-◌,
 use Rattle.undo_outside.specs.Disk.{DiskTold, ReadFailed, WriteOutOfMemory}
 use Rattle.verb_core.specs.declared.bodies.BodiesFault.{BodiesFault}
 use Rattle.verb_core.specs.declared.bodies.BodiesFault.TheVariants.{Failed}
+use Rattle.verb_core.specs.declared.bodies.BodiesFault.TheVariants as bodies_faults
 use Rattle.verb_core.specs.declared.mailbox.Body.{Body}
 use Rattle.verb_bytes.specs.declared.journal.CycleAsk.{CycleAsk}
 use Rattle.verb_bytes.specs.declared.journal.JournalRecord.{JournalRecord}
@@ -46,6 +47,11 @@ use Rattle.desk_journal.specs.Submitting.{SealsNothing}
 use Rattle.desk_journal.specs.Telling.{HoldsHeld, IsPastRead, told_first}
 
 -- ---- a repair in memory
+
+-- why there is no cycle, where a repair was not worked out
+abbrev pub refused_by : BodiesFault → CycleRefused
+refused_by Failed = refusals.Disk
+refused_by bodies_faults.NoMemory = refusals.NoMemory
 
 -- what it leaves, as a desk takes it, where it can be withdrawn and where it can't
 abbrev pub left_of : Bool → Rewound → Left

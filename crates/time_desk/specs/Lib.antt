@@ -10,3 +10,4 @@ pub mod Auditing
 pub mod Cutting
 pub mod Unfiltered
 pub mod Fronts
+pub mod Heads

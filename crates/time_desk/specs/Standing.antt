@@ -13,6 +13,8 @@ use Rattle.verb_bytes.specs.Spelling.{Spells}
 use Rattle.undo_outside.specs.Disk.{DiskTold, ReadFailed}
 use Rattle.seal_log.specs.Journal.{sealed}
 use Rattle.seal_log.specs.Loading.{places_from}
+use Rattle.seal_log.specs.declared.fault.ReadFault.{ReadFault}
+use Rattle.seal_log.specs.declared.fault.ReadFault.TheVariants as read_faults
 use Rattle.seal_log.specs.declared.place.Place.{Place}
 use Rattle.shelf.specs.Marks.{with_mark}
 use Rattle.mail_desk.specs.Held.{Held}
@@ -73,6 +75,11 @@ Performs due true new = due ≡ Some new
 Performs due false new = due ≡ None
 
 -- ---- faults on the way
+
+-- why a desk is not started, where a payload was not read
+abbrev pub fault_of_read : ReadFault → StartFault
+fault_of_read read_faults.Disk = Disk
+fault_of_read read_faults.NoMemory = NoMemory
 
 -- a read failed where the fault says so, and none did elsewhere
 abbrev pub ReadCounts : DiskTold → DiskTold → StartFault → Type 0

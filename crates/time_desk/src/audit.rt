@@ -1,6 +1,17 @@
 //! An audit: whether each record behind the journal's front is true of what was kept before it. The journal is read once more, and its
 //! records are performed in memory, beside the desk.
-ghost use Rattle.std.specs.Prelude.{◌≡◌, ◌<◌, ◌≤◌, ◌+◌, ◌++◌, ◌^◌, [], ℕ, List, None, Some, true, false, IfOk, IfSome, OnOk, IsErrOf, length};
+//!
+//! A record that, read again by an audit, decodes no more counts as not true, at its gate (`unread` of `Desk::audit`). The clause
+//! speaks of a disk that holds other payloads than it gave when the desk was opened, and is honest by then. Neither disk of the
+//! program is such a one. `MemDisk` gives again what it gave, and of a file nothing is claimed (tests/system changes an octet
+//! between the two readings).
+//!
+//! What the journal opens with is taken as given, and an audit reads it whole: opening leaves out the texts of long records. So an
+//! audit reads each octet of a journal, whose records are true, once more than opening or for the first time (tests/faults).
+//!
+//! Where a frame goes past the end of the journal an audit tells its gate too. No clause says it, since none of desk_journal's
+//! says that a length which goes past the end gives no place.
+ghost use Rattle.std.specs.Prelude.{◌≡◌, ◌<◌, ◌≤◌, ◌+◌, ◌++◌, ◌^◌, [], ℕ, List, None, Some, Ok, Err, true, false, IfOk, IfErr, IfSome, OnOk, IsErrOf, length};
 ghost use Rattle.std.specs.List.{All, AllByRecursion};
 ghost use Rattle.std.specs.Option.{option_or};
 ghost use Rattle.verb_bytes.specs.declared.journal.JournalRecord.{JournalRecord as TheRecord};
@@ -21,13 +32,14 @@ ghost use Rattle.time_desk.specs.Auditing.{Judges, JudgesItem, LeadsUnread, Leav
 ghost use Rattle.time_desk.specs.Standing.{IsFormed};
 
 use crate::front::begin_at;
+use crate::heads::SHORT;
 use crate::standing::{can_follow, follow, length_at, snapshot_is_true, without_reads};
 use crate::start::{record_at, revs_stay};
 use crate::{Desk, StartFault};
 use desk_journal::{Journal, Past};
 use seal_log::{Place, Places, ReadFault};
 use std::alloc::Global;
-use undo_base::{NoMemory, after};
+use undo_base::{NoMemory, after, before};
 use undo_outside::Disk;
 use verb_bytes::laws::{one_spelling, spelled_items_are_formed};
 use verb_bytes::{JournalRecord, item_text_from};
@@ -235,7 +247,44 @@ fn first_false<D: Disk>(
     Ok(None)
 }
 
-/// The same of the records at all places of a journal, those behind its front: one at least.
+/// Reads the long records at places whole.
+fn read_each<D: Disk>(alloc: Global, past: &mut Past<D>, places: &[Place]) -> Result<(), ReadFault>
+    requires places { All (λ place. place.gate + 5 + place.length ≤ past.old.end) places.now }
+    ensures still { IsPastRead D.told past.old past.new }
+    ensures cause { ReadAtCause (D.told past.old.disk) (D.told past.new.disk) result }
+{
+    for place in places {
+        if place.length > SHORT {
+            let _payload = past.read(alloc, *place, 0, place.length)?;
+        }
+    }
+    Ok(())
+}
+
+/// What an audit found behind the front, whose long records are read whole where it found nothing.
+fn with_front<D: Disk>(
+    alloc: Global,
+    past: &mut Past<D>,
+    front: &[Place],
+    found: Result<Option<u64>, ReadFault>,
+) -> Result<Option<u64>, ReadFault>
+    requires places { All (λ place. place.gate + 5 + place.length ≤ past.old.end) front.now }
+    ensures same { IfOk result (λ gate. found ≡ Ok gate) }
+    ensures still { IsPastRead D.told past.old past.new }
+    ensures read { IfOk found (λ gate. ReadAtCause (D.told past.old.disk) (D.told past.new.disk) result) }
+    ensures fault { IfErr found (λ fault. (result ≡ Err fault) × (past.new ≡ past.old)) }
+{
+    match found {
+        Ok(None) => match read_each(alloc, past, front) {
+            Ok(()) => Ok(None),
+            Err(fault) => Err(fault),
+        },
+        Ok(Some(gate)) => Ok(Some(gate)),
+        Err(fault) => Err(fault),
+    }
+}
+
+/// The same of the records at all places of a journal, those behind its front: one at least. The front is read whole.
 fn first_false_of<D: Disk>(
     alloc: Global,
     past: &mut Past<D>,
@@ -254,7 +303,9 @@ fn first_false_of<D: Disk>(
     match begin_at(alloc, past, places, false) {
         Ok((desk, count)) => {
             let mut desk = desk;
-            first_false(alloc, past, &mut desk, after(places, count))
+            let others = after(places, count);
+            let found = first_false(alloc, past, &mut desk, others);
+            with_front(alloc, past, before(places, count), found)
         }
         Err(StartFault::Damaged { place }) => Ok(Some(place)),
         Err(StartFault::NotFormatted) => Ok(Some(0)),

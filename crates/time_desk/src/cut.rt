@@ -1,4 +1,11 @@
 //! What a cut at a point is made of: the payloads of Format and Base, the bodies in the base, and the later items.
+//!
+//! The Format of a cut is the journal's own first payload, byte for byte, also in a cut of a cut: aliases of acts may have names
+//! that a Format may not. So the desk keeps the opening configuration beside the base's.
+//!
+//! A Base or a Kept record without a spelling is told as want of memory by `Desk::cut_parts`, as a record that is to be sealed
+//! is: so `write_cut`'s condition is met. Each has one where it takes no more bytes than a frame can hold, and where eight bytes
+//! hold the UIDs of the base (`cuts_can_be_written`).
 ghost use Rattle.std.specs.Prelude.{◌≡◌, ◌<◌, ◌≤◌, ◌+◌, ◌==◌, ◌&&◌, ◌++◌, ◌∷◌, [], not, ℕ, List, Some, length, map, take, drop, is_some, IsTrue, IfOk, IfErr, IsErrOf, OnOk, false};
 ghost use Rattle.std.specs.List.{AllByRecursion, list_all};
 ghost use Rattle.verb_core.specs.declared.item.Item.{Item as TheItem};
@@ -43,7 +50,7 @@ use std::sync::ledger::{Blank, Ledger};
 use stored_items::{StoredItem, StoredItems};
 use undo_base::{NoMemory, Text};
 use undo_outside::Disk;
-use verb_bytes::{Unwritten, spell_base, spell_kept};
+use verb_bytes::{spell_base, spell_kept};
 use verb_core::{Act, Bodies, BodiesFault, Body, BoxId, Deed, Entry, Item, Items, Mailbox};
 
 // ---- texts that nobody looks at
@@ -411,8 +418,7 @@ fn base_bytes(
         desk.reports(),
     ) {
         Ok(bytes) => Ok(bytes),
-        Err(Unwritten::Unspelled) => Err(NoMemory),
-        Err(Unwritten::NoMemory) => Err(NoMemory),
+        Err(_) => Err(NoMemory),
     }
 }
 
@@ -422,8 +428,7 @@ fn check_item(alloc: Global, item: &Item) -> Result<(), NoMemory>
 {
     match spell_kept(alloc, item) {
         Ok(_bytes) => Ok(()),
-        Err(Unwritten::Unspelled) => Err(NoMemory),
-        Err(Unwritten::NoMemory) => Err(NoMemory),
+        Err(_) => Err(NoMemory),
     }
 }
 

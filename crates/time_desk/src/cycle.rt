@@ -1,4 +1,25 @@
 //! What the operator asks of the past: a cycle, and a trial of one.
+//!
+//! The counter of steps has no bytes, so no test can see it. The clause `rewinds` speaks of it, and tests count the reads of a
+//! cycle in its place, since each delivery that is performed has its text read.
+//!
+//! The bound on a cycle's steps speaks of what the records leave (`newest_at` over the positions that can serve), not of what
+//! memory has. A cycle that is refused after all, for want of memory or at the disk, performed no more than these with a notice
+//! for each account (`most`, `most_tried`). Whatever the disk holds, it is no more than the items in force, the acts that come in
+//! and the accounts together (`few`).
+//!
+//! The moment of a cycle is that of the event in which the last byte of its request came. It may lie before moments in the
+//! timeline: nothing is sorted by moments.
+//!
+//! A cycle without repairs at the last item is a cycle: it draws a number, keeps its report, and sends IMAP clients away.
+//!
+//! The record of a cycle has the request as it was asked, numbers in vain included. Opening does the cycle again, so its report
+//! is told again under its key after any number of runs.
+//!
+//! A request under a key that a cycle had is answered from the report that is kept, before anything else is looked at.
+//!
+//! Memory for a cycle or a trial is wanted only where one is due (or, for `cycle`, a report is copied). Where the point or the
+//! numbers are missing that is the answer.
 ghost use Rattle.std.specs.Prelude.{◌≡◌, ◌+◌, ◌≤◌, ℕ, true, false, None, length, option_copied, IsTrue, IsSome, IfOk, OnOk, IfErr, OnErr};
 ghost use Rattle.seal_log.specs.Causes.{FindsMemory};
 ghost use Rattle.seal_log.specs.Settled.{ReadsAlone};
@@ -24,7 +45,7 @@ use crate::permanence::records_let_uids_last;
 use crate::redo::{key_in, remade};
 use crate::{CycleFault, Desk, redo};
 use box_store::Steps;
-use desk_journal::{Journal, cycle_bytes, fresh_of, seal_bytes};
+use desk_journal::{Journal, cycle_bytes, fresh_of};
 use mail_cycle::{CycleRefused, Rewound};
 use mail_desk::{Fresh, Remade};
 use paradox::Report;
@@ -197,35 +218,7 @@ fn ready_cycle<D: Disk>(
     }
 }
 
-/// Seals a record for which all is ready, and then puts what it leaves in place.
-fn seal_remade<D: Disk>(
-    alloc: Global,
-    journal: &mut Journal<D>,
-    desk: &mut mail_desk::Desk,
-    bytes: &Text,
-    remade: Remade,
-) -> Result<(), SealFault>
-    requires open { journal.old.closed ≡ false }
-    requires ready { CanReplace remade desk.old }
-    ensures sealed { SealsBytes D.told bytes.now journal.old journal.new result }
-    ensures kept { OnOk result (desk.new.kept ≡ remade_as desk.old.kept remade) }
-    ensures notes { OnOk result (desk.new.notes ≡ remade.shelf.notes) }
-    ensures marks { OnOk result (desk.new.marks ≡ marks_at_or_before remade.left.place desk.old.marks) }
-    ensures same { OnErr result (desk.new ≡ desk.old) }
-{
-    match seal_bytes(alloc, journal, bytes) {
-        Ok(()) => {
-            desk.replace(remade);
-            Ok(())
-        }
-        Err(fault) => {
-            drop(remade);
-            Err(fault)
-        }
-    }
-}
-
-/// The same, with the report for which there is a copy.
+/// Seals a record for which all is ready, then puts what it leaves in place, and gives the report.
 pub(crate) fn seal_found<D: Disk>(
     alloc: Global,
     journal: &mut Journal<D>,
@@ -246,9 +239,13 @@ pub(crate) fn seal_found<D: Disk>(
         report,
         bytes,
     } = found;
-    match seal_remade(alloc, journal, desk, &bytes, remade) {
-        Ok(()) => Ok(report),
+    match journal.seal(alloc, &bytes) {
+        Ok(()) => {
+            desk.replace(remade);
+            Ok(report)
+        }
         Err(fault) => {
+            drop(remade);
             drop(report);
             Err(fault)
         }
@@ -263,7 +260,7 @@ fn fault_of(fault: SealFault) -> CycleFault
     match fault {
         SealFault::Disk => CycleFault::Disk,
         SealFault::NoMemory => CycleFault::NoMemory,
-        SealFault::Closed => unreachable!(),
+        SealFault::Closed => CycleFault::Closed,
     }
 }
 
@@ -318,47 +315,6 @@ fn cycle_made<D: Disk>(
     }
 }
 
-/// Does a cycle under a new key on a desk that is not closed.
-fn cycle_open<R: Threads + Sync, G: Gate, D: Disk, L: Ledger>(
-    rt: &R,
-    alloc: Global,
-    journal: &mut Journal<D>,
-    desk: &mut mail_desk::Desk,
-    at: u64,
-    ask: CycleAsk,
-    gate: &G,
-    steps: &mut Steps<L>,
-) -> Result<Report, CycleFault>
-    requires moment { at ≤ LAST_MOMENT }
-    requires open { journal.old.closed ≡ false }
-    requires known { IsTrue (are_known desk.old.kept.house ask.inserts) }
-    requires anew { report_of desk.old.kept.reports ask.key ≡ None }
-    requires noted { AreNoted journal.old.gate desk.old }
-    ensures done { IfOk result (λ report. Cycles D.told at ask (lasting desk.old journal.old) (lasting desk.new journal.new) report) }
-    ensures noted { AreNoted journal.new.gate desk.new }
-    ensures err { OnErr result (desk.new.kept ≡ desk.old.kept) }
-    ensures notes { OnErr result (desk.new.notes ≡ desk.old.notes) }
-    ensures marks { OnErr result (desk.new.marks ≡ desk.old.marks) }
-    ensures why { IfErr result (λ fault. CyclesNone D.told at ask (lasting desk.old journal.old) (lasting desk.new journal.new) fault) }
-    ensures rewinds { (due : Cycled) → due_anew desk.old.kept at ask ≡ Rewinds due → HoldsTexts D.told (lasting desk.old journal.old)
-        → OnOk result (steps.new ≤ steps.old + most_performed desk.old.kept ask due) }
-    ensures most { (due : Cycled) → due_anew desk.old.kept at ask ≡ Rewinds due → HoldsTexts D.told (lasting desk.old journal.old)
-        → OnErr result (steps.new ≤ steps.old + most_tried desk.old.kept ask due) }
-    ensures few { OnErr result (steps.new ≤ steps.old + length desk.old.kept.timeline + length ask.inserts + length desk.old.kept.house.accounts) }
-    ensures same { OnOk result ((D.told journal.new.disk).failed_reads ≡ (D.told journal.old.disk).failed_reads) }
-    ensures finds_memory { OnOk result (FindsMemory (D.told journal.old.disk) (D.told journal.new.disk)) }
-    ensures wants { IfErr result (λ fault. CycleWants D.told journal.old.disk journal.new.disk fault) }
-    ensures steps { OnOk result (steps.new ≤ steps.old + length desk.new.kept.timeline) }
-{
-    match redo::cycle(rt, alloc, journal, desk, at, &ask, gate, steps) {
-        Ok(made) => cycle_made(alloc, journal, desk, at, ask, made),
-        Err(refused) => {
-            drop(ask);
-            Err(refused_as(refused))
-        }
-    }
-}
-
 /// Does a cycle under a new key.
 fn cycle_anew<R: Threads + Sync, G: Gate, D: Disk, L: Ledger>(
     rt: &R,
@@ -394,7 +350,13 @@ fn cycle_anew<R: Threads + Sync, G: Gate, D: Disk, L: Ledger>(
         drop(ask);
         return Err(CycleFault::Closed);
     }
-    cycle_open(rt, alloc, journal, desk, at, ask, gate, steps)
+    match redo::cycle(rt, alloc, journal, desk, at, &ask, gate, steps) {
+        Ok(made) => cycle_made(alloc, journal, desk, at, ask, made),
+        Err(refused) => {
+            drop(ask);
+            Err(refused_as(refused))
+        }
+    }
 }
 
 impl<D: Disk> Desk<D> {

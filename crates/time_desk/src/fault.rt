@@ -1,4 +1,8 @@
 //! Why a desk was not started, and why a cycle or a withdrawal was not done.
+ghost use Rattle.std.specs.Prelude.{◌≡◌};
+ghost use Rattle.time_desk.specs.Standing.{fault_of_read as told_of_read};
+
+use seal_log::ReadFault;
 
 /// Why a desk was not started.
 #[derive(Clone, Copy, Debug, PartialEq, Eq)]
@@ -42,4 +46,14 @@ pub enum WithdrawFault {
     NoMemory,
     /// A write or a sync failed earlier.
     Closed,
+}
+
+/// Why a desk was not started, where a payload was not read.
+pub(crate) fn fault_of_read(fault: ReadFault) -> StartFault
+    ensures { result ≡ told_of_read fault }
+{
+    match fault {
+        ReadFault::Disk => StartFault::Disk,
+        ReadFault::NoMemory => StartFault::NoMemory,
+    }
 }

@@ -1,17 +1,23 @@
 //! What a journal opens with: its Format; and where its past was cut off, a Base, the Texts of the messages in it, and the items that
 //! were kept. They are judged by their own rules as they are read, and as one where they are over.
+//!
+//! That numbers and revs of Kepts are below the Base's next is the Kepts' own rule: their gate is told.
 ghost use Rattle.std.specs.Prelude.{◌≡◌, ◌<◌, ◌≤◌, ◌+◌, ◌++◌, [], ℕ, List, true, false, Some, None, OnOk, IfOk, IfErr, IfSome, IsTrue, drop, length, is_some, slice_get, if◌then◌else◌, ◌&&◌, ◌==◌};
 ghost use Rattle.std.specs.List.{All};
 ghost use Rattle.verb_core.specs.declared.conf.Conf.{Conf as TheConf};
 ghost use Rattle.verb_core.specs.declared.conf.House.{House as TheHouse};
 ghost use Rattle.verb_bytes.specs.declared.journal.JournalRecord.{JournalRecord as TheRecord};
 ghost use Rattle.verb_bytes.specs.declared.journal.JournalRecord.TheVariants.{Kept as KeptRecord, Text as TextRecord};
+ghost use Rattle.verb_core.specs.Deeds.{is_notice};
+ghost use Rattle.verb_core.specs.Items.{text_in};
+ghost use Rattle.verb_bytes.specs.Places.{IsTextAt};
 ghost use Rattle.verb_bytes.specs.Spelling.{HasSpelling, record_bytes};
 ghost use Rattle.seal_log.specs.Journal.{sealed, LiesAt};
 ghost use Rattle.seal_log.specs.Loading.{places_from};
 ghost use Rattle.seal_log.specs.Settled.{Holds};
 ghost use Rattle.mail_desk.specs.Founding.{based_of, begun_on};
-ghost use Rattle.store_kept.specs.Founding.{base_stands as based_stands};
+ghost use Rattle.store_kept.specs.Founding.{base_stands as based_stands, store_based};
+ghost use Rattle.stored_items.specs.Stored.{whole};
 ghost use Rattle.store_kept.specs.Kept.{new_desk};
 ghost use Rattle.desk_journal.specs.Founding.{first_fore, fore_of, kept_stands, own, settled as settles};
 ghost use Rattle.desk_journal.specs.Records.{payloads_of};
@@ -19,10 +25,12 @@ ghost use Rattle.desk_journal.specs.Stored.{AreNoted, TextsHeld};
 ghost use Rattle.desk_journal.specs.Telling.{IsPastRead};
 ghost use Rattle.house_text.specs.Beginning.{can_begin as begins};
 ghost use Rattle.time_desk.specs.Fronts.{BaseOf, BeginsBased, BeginsWith, FailsFront, FailsSecond, FoundNoted, FoundStored, GoesOnWith, GoesWith, IsFirst, IsGrounded, LacksOrEnds, SecondIs, SpellsBase, StopsInFront, WentOn, fore_at, fore_in, kept_in, record_of};
+ghost use Rattle.time_desk.specs.Heads.{IsHead, brings_kept, headed};
 ghost use Rattle.time_desk.specs.Opening.{fits};
 ghost use Rattle.time_desk.specs.Standing.{Fails, FrontBreaksFor, IsFormed, Opens, ReadCounts};
 
 use crate::StartFault;
+use crate::heads::{HeadOf, head_at};
 use crate::standing::{is_formed, length_at};
 use crate::start::record_at;
 use desk_journal::{Past, can_found};
@@ -30,7 +38,7 @@ use house_text::can_begin;
 use mail_desk::{BaseParts, Desk, Founding};
 use seal_log::Place;
 use std::alloc::Global;
-use undo_base::{NoMemory, Text, after};
+use undo_base::{NoMemory, PastText, Text, after};
 use undo_outside::Disk;
 use verb_bytes::laws::{
     one_spelling, records_begin_with_their_kind, spelled_kept_items_are_formed,
@@ -335,8 +343,106 @@ fn go_with(
     }
 }
 
-/// The same of the record at a place.
-fn go_on_at<D: Disk>(
+/// Notes the text of a Text that is not read, where it can stand.
+fn take_lying(
+    founding: &mut Founding,
+    body: Body,
+    text: PastText,
+    place: Place,
+    from: u32,
+) -> Result<bool, StartFault>
+    requires spelled { HasSpelling (TextRecord body text) }
+    requires long { place.length ≡ length (record_bytes (TextRecord body text)) }
+    requires lies { IsTextAt (record_bytes (TextRecord body text)) from text }
+    requires grounded { IsGrounded founding.old }
+    ensures goes { IfOk result (λ went. (went ≡ true) × (own (fore_in founding.old) (TextRecord body text) ≡ Some (fore_in founding.new))) }
+    ensures grounded { OnOk result (IsGrounded founding.new) }
+    ensures bad { IfErr result (Fails (own (fore_in founding.old) (TextRecord body text) ≡ None) place.gate) }
+    ensures noted { (end : ℕ) → place.gate + 5 + place.length ≤ end → FoundNoted end founding.old → OnOk result (FoundNoted end founding.new) }
+    ensures stored { (payloads : List (List ℕ)) → LiesAt payloads place.gate place.length (record_bytes (TextRecord body text)) → FoundStored payloads founding.old
+        → OnOk result (FoundStored payloads founding.new) }
+{
+    if !founding.text_stands(body) {
+        drop(text);
+        return Err(StartFault::Damaged { place: place.gate });
+    }
+    match founding.text_lying(body, text, place, from) {
+        Ok(()) => Ok(true),
+        Err(NoMemory) => Err(StartFault::NoMemory),
+    }
+}
+
+/// Keeps the item of a Kept whose text is not read and not looked at, where it can stand.
+fn keep_lying(
+    alloc: Global,
+    founding: &mut Founding,
+    item: Item,
+    text: PastText,
+    place: Place,
+    from: u32,
+) -> Result<bool, StartFault>
+    requires bare { HasSpelling (KeptRecord item) }
+    requires spelled { HasSpelling (KeptRecord (whole item text)) }
+    requires empty { text_in item.deed ≡ Some [] }
+    requires plain { is_notice item.deed ≡ false }
+    requires long { place.length ≡ length (record_bytes (KeptRecord (whole item text))) }
+    requires lies { IsTextAt (record_bytes (KeptRecord (whole item text))) from text }
+    requires unfiltered { (store_based founding.old.house founding.old.based).conf.filters ≡ [] }
+    requires grounded { IsGrounded founding.old }
+    ensures goes { IfOk result (λ went. (went ≡ true) × (own (fore_in founding.old) (KeptRecord (whole item text)) ≡ Some (fore_in founding.new))) }
+    ensures grounded { OnOk result (IsGrounded founding.new) }
+    ensures bad { IfErr result (Fails (own (fore_in founding.old) (KeptRecord (whole item text)) ≡ None) place.gate) }
+    ensures noted { (end : ℕ) → place.gate + 5 + place.length ≤ end → FoundNoted end founding.old → OnOk result (FoundNoted end founding.new) }
+    ensures stored { (payloads : List (List ℕ)) → LiesAt payloads place.gate place.length (record_bytes (KeptRecord (whole item text))) → FoundStored payloads founding.old
+        → OnOk result (FoundStored payloads founding.new) }
+{
+    spelled_kept_items_are_formed();
+    if !can_keep(founding, &item) {
+        drop(item);
+        drop(text);
+        return Err(StartFault::Damaged { place: place.gate });
+    }
+    match founding.keep_lying(alloc, item, text, place, from) {
+        Ok(()) => Ok(true),
+        Err(NoMemory) => Err(StartFault::NoMemory),
+    }
+}
+
+/// Goes on with a record whose text is not read and not looked at, where it goes on with the front, and answers whether it does.
+fn go_with_head(
+    alloc: Global,
+    founding: &mut Founding,
+    head: HeadOf,
+    place: Place,
+) -> Result<bool, StartFault>
+    requires head { IsHead head }
+    requires long { place.length ≡ length (record_bytes (headed head)) }
+    requires unlooked { brings_kept head.what ≡ true → (store_based founding.old.house founding.old.based).conf.filters ≡ [] }
+    requires grounded { IsGrounded founding.old }
+    ensures goes { IfOk result (λ went. GoesWith founding.old (headed head) went founding.new) }
+    ensures grounded { OnOk result (IsGrounded founding.new) }
+    ensures bad { IfErr result (Fails (fits (Some (fore_in founding.old)) (headed head) ≡ false) place.gate) }
+    ensures noted { (end : ℕ) → place.gate + 5 + place.length ≤ end → FoundNoted end founding.old → OnOk result (FoundNoted end founding.new) }
+    ensures stored { (payloads : List (List ℕ)) → LiesAt payloads place.gate place.length (record_bytes (headed head)) → FoundStored payloads founding.old
+        → OnOk result (FoundStored payloads founding.new) }
+{
+    let HeadOf { what, text, from } = head;
+    match what {
+        JournalRecord::Text { body, text: empty } => {
+            drop(empty);
+            take_lying(founding, body, text, place, from)
+        }
+        JournalRecord::Kept(item) => keep_lying(alloc, founding, item, text, place, from),
+        other => {
+            drop(other);
+            drop(text);
+            Ok(false)
+        }
+    }
+}
+
+/// The same of the whole record at a place.
+fn go_on_whole<D: Disk>(
     alloc: Global,
     past: &mut Past<D>,
     founding: &mut Founding,
@@ -360,6 +466,52 @@ fn go_on_at<D: Disk>(
     one_spelling();
     match record_at(alloc, past, place) {
         Ok(what) => go_with(alloc, founding, what, place),
+        Err(fault) => Err(fault),
+    }
+}
+
+/// Whether a record is performed on a store in which a filter may look at its text.
+fn is_looked_at(founding: &Founding, what: &JournalRecord) -> bool
+    ensures { result ≡ false → brings_kept what.now ≡ true → (store_based founding.now.house founding.now.based).conf.filters ≡ [] }
+{
+    match what {
+        JournalRecord::Kept(_) => !founding.is_unfiltered(),
+        _ => false,
+    }
+}
+
+/// The same of the record at a place, of which the text is not read where that can be done.
+fn go_on_at<D: Disk>(
+    alloc: Global,
+    past: &mut Past<D>,
+    founding: &mut Founding,
+    place: Place,
+) -> Result<bool, StartFault>
+    requires place { place.gate + 5 + place.length ≤ past.old.end }
+    requires noted { FoundNoted past.old.end founding.old }
+    requires grounded { IsGrounded founding.old }
+    ensures goes { (payloads : List (List ℕ)) (payload : List ℕ) → Holds (D.told past.old.disk) payloads
+        → LiesAt payloads place.gate place.length payload → IfOk result (λ went. GoesOnWith founding.old payload went founding.new) }
+    ensures bad { (payloads : List (List ℕ)) (payload : List ℕ) → Holds (D.told past.old.disk) payloads
+        → LiesAt payloads place.gate place.length payload → IfErr result (FailsFront (Some (fore_in founding.old)) payload place.gate) }
+    ensures noted { OnOk result (FoundNoted past.old.end founding.new) }
+    ensures grounded { OnOk result (IsGrounded founding.new) }
+    ensures stored { (payloads : List (List ℕ)) (payload : List ℕ) → Holds (D.told past.old.disk) payloads
+        → LiesAt payloads place.gate place.length payload → FoundStored payloads founding.old → OnOk result (FoundStored payloads founding.new) }
+    ensures still { IsPastRead D.told past.old past.new }
+    ensures ok { OnOk result ((D.told past.new.disk).failed_reads ≡ (D.told past.old.disk).failed_reads) }
+    ensures fault { IfErr result (ReadCounts (D.told past.old.disk) (D.told past.new.disk)) }
+{
+    one_spelling();
+    match head_at(alloc, past, place) {
+        Ok(Some(head)) => {
+            if is_looked_at(founding, &head.what) {
+                drop(head);
+                return go_on_whole(alloc, past, founding, place);
+            }
+            go_with_head(alloc, founding, head, place)
+        }
+        Ok(None) => go_on_whole(alloc, past, founding, place),
         Err(fault) => Err(fault),
     }
 }

@@ -25,6 +25,7 @@ mod deliveries;
 mod desk;
 mod fault;
 mod front;
+mod heads;
 pub mod laws;
 mod lend;
 mod make;

@@ -1,11 +1,19 @@
 //! A repair in memory, beside the desk: of a cycle, of a trial of one, and of a withdrawal. It is also of those of the journal that
 //! are performed again where a desk is started, one item after the other, since there are no workers.
+//!
+//! A Cycle record that is replayed when a store is opened reads the deliveries' texts of its timeline, of which opening itself
+//! leaves the long ones out.
+//!
+//! Of the cycles that are performed again where a desk is started no clause bounds the steps: that counter is made there and lent
+//! by nobody.
+//!
+//! Opening performs a Cycle record again with the snapshots that it has read so far, as the cycle did.
 ghost use Rattle.std.specs.Prelude.{◌≡◌, ◌<◌, ◌≤◌, ℕ, Some, false, IsErrOf, IsTrue, IfOk, IfErr};
 ghost use Rattle.store_kept.specs.Kept.{undone_of};
 ghost use Rattle.repair_desk.specs.Repairs.{are_known};
 ghost use Rattle.mail_cycle.specs.Tasks.{Begins};
 ghost use Rattle.mail_desk.specs.Remaking.{CanReplace, remade_as};
-ghost use Rattle.time_desk.specs.Cycling.{CanBeUndone, CanRework, IsFit, RedoesAlone, RedoesCycle, Reworks, after_rewound, asked_then};
+ghost use Rattle.time_desk.specs.Cycling.{CanBeUndone, CanRework, IsFit, RedoesAlone, RedoesCycle, Reworks, after_rewound, asked_then, refused_by};
 ghost use Rattle.time_desk.specs.Planning.{BodiesCause};
 ghost use Rattle.time_desk.specs.Replaying.{some_marked};
 ghost use Rattle.time_desk.specs.Serving.{IsNewest, CanBegin, unmarked};
@@ -140,6 +148,16 @@ fn again<D: Disk, L: Ledger>(
     rework_in_order(alloc, due, first, &mut bodies, steps)
 }
 
+/// Why there is no cycle, where a repair was not worked out.
+fn refused_for(fault: BodiesFault) -> CycleRefused
+    ensures { result ≡ refused_by fault }
+{
+    match fault {
+        BodiesFault::Failed => CycleRefused::Disk,
+        BodiesFault::NoMemory => CycleRefused::NoMemory,
+    }
+}
+
 /// What the cycle leaves that is due at a moment under a new key. Texts are read before a gate.
 fn cycle_before<R: Threads + Sync, G: Gate, D: Disk, L: Ledger>(
     rt: &R,
@@ -163,8 +181,7 @@ fn cycle_before<R: Threads + Sync, G: Gate, D: Disk, L: Ledger>(
     match Due::cycle(begun(desk), at, ask) {
         Ok(due) => match rewound(rt, alloc, past, desk, &due, gate, steps) {
             Ok(made) => Ok(made),
-            Err(BodiesFault::Failed) => Err(CycleRefused::Disk),
-            Err(BodiesFault::NoMemory) => Err(CycleRefused::NoMemory),
+            Err(fault) => Err(refused_for(fault)),
         },
         Err(refused) => Err(refused),
     }
@@ -258,8 +275,7 @@ fn again_over<D: Disk, L: Ledger>(
     match Due::cycle(begun(desk), at, ask) {
         Ok(due) => match again(alloc, past, desk, &due, &mut steps) {
             Ok(made) => Ok(made),
-            Err(BodiesFault::Failed) => Err(CycleRefused::Disk),
-            Err(BodiesFault::NoMemory) => Err(CycleRefused::NoMemory),
+            Err(fault) => Err(refused_for(fault)),
         },
         Err(refused) => Err(refused),
     }
@@ -304,8 +320,7 @@ fn withdrawal_before<R: Threads + Sync, G: Gate, D: Disk, L: Ledger>(
     match Due::withdrawal(alloc, begun(desk), at, last) {
         Ok(due) => match rewound(rt, alloc, past, desk, &due, gate, steps) {
             Ok(made) => Ok(made),
-            Err(BodiesFault::Failed) => Err(CycleRefused::Disk),
-            Err(BodiesFault::NoMemory) => Err(CycleRefused::NoMemory),
+            Err(fault) => Err(refused_for(fault)),
         },
         Err(refused) => Err(refused),
     }
@@ -358,8 +373,7 @@ fn withdrawal_over<D: Disk, L: Ledger>(
     match Due::withdrawal(alloc, begun(desk), at, last) {
         Ok(due) => match again(alloc, past, desk, &due, &mut steps) {
             Ok(made) => Ok(made),
-            Err(BodiesFault::Failed) => Err(CycleRefused::Disk),
-            Err(BodiesFault::NoMemory) => Err(CycleRefused::NoMemory),
+            Err(fault) => Err(refused_for(fault)),
         },
         Err(refused) => Err(refused),
     }

@@ -1,5 +1,8 @@
 //! A desk from the journal on a disk.
-ghost use Rattle.std.specs.Prelude.{◌≡◌, ◌<◌, ◌≤◌, ◌+◌, ◌++◌, ℕ, List, true, false, Some, None, Ok, Err, OnOk, IfOk, IfErr, length};
+//!
+//! `start` tells the earliest place that is wrong: a record that can't stand before a frame that is cut behind it. A refusal
+//! hands the disk back as it was.
+ghost use Rattle.std.specs.Prelude.{◌≡◌, ◌<◌, ◌≤◌, ◌+◌, ◌++◌, [], ℕ, List, true, false, Some, None, Ok, Err, OnOk, IfOk, IfErr, length};
 ghost use Rattle.std.specs.List.{All};
 ghost use Rattle.verb_bytes.specs.declared.journal.JournalRecord.{JournalRecord as TheRecord};
 ghost use Rattle.verb_bytes.specs.Spelling.{HasSpelling, Spells, record_bytes};
@@ -9,20 +12,23 @@ ghost use Rattle.seal_log.specs.Loads.{IsSurveyed};
 ghost use Rattle.seal_log.specs.Log.{end_gate, is_cut, last_gate, leaves_open};
 ghost use Rattle.seal_log.specs.Settled.{Holds, ReadsAlone};
 ghost use Rattle.store_kept.specs.Coming.{HasUndoneTexts};
-ghost use Rattle.store_kept.specs.Kept.{IsRun, Kept};
+ghost use Rattle.store_kept.specs.Kept.{IsRun, Kept, store_of};
 ghost use Rattle.desk_journal.specs.Permanence.{RevsBelow};
+ghost use Rattle.time_desk.specs.Heads.{IsHead, headed};
 ghost use Rattle.time_desk.specs.Opening.{IsStarted, Refuses, Starts};
 ghost use Rattle.desk_journal.specs.Records.{after_record};
 ghost use Rattle.time_desk.specs.Standing.{BreaksFor, Fails, FailsPayload, FailsReading, LeadsTo, Performed, ReadCounts, SpellsAll, SpellsNothing, StopsFor};
 ghost use Rattle.desk_journal.specs.Stored.{AreNoted, HoldsTexts, SettledTexts, TextsHeld};
 ghost use Rattle.desk_journal.specs.Telling.{IsPastRead};
 
+use crate::fault::fault_of_read;
 use crate::front::begin_at;
+use crate::heads::{HeadOf, head_at};
 use crate::permanence::records_let_uids_last;
-use crate::standing::follow;
+use crate::standing::{follow, follow_head};
 use crate::{Desk, StartFault};
 use desk_journal::{Journal, Past};
-use seal_log::{End, LoadFault, Log, Place, ReadFault, Survey, survey};
+use seal_log::{End, LoadFault, Log, Place, Survey, survey};
 use std::alloc::Global;
 use undo_base::{NoMemory, Text, after};
 use undo_outside::Disk;
@@ -76,8 +82,7 @@ pub(crate) fn record_at<D: Disk>(
 {
     match past.read(alloc, place, 0, place.length) {
         Ok(payload) => decoded_at(alloc, &payload, place),
-        Err(ReadFault::Disk) => Err(StartFault::Disk),
-        Err(ReadFault::NoMemory) => Err(StartFault::NoMemory),
+        Err(fault) => Err(fault_of_read(fault)),
     }
 }
 
@@ -124,8 +129,101 @@ fn performed<D: Disk>(
             }
             Err(StartFault::Damaged { place: place.gate })
         }
-        Err(ReadFault::Disk) => Err(StartFault::Disk),
-        Err(ReadFault::NoMemory) => Err(StartFault::NoMemory),
+        Err(fault) => Err(fault_of_read(fault)),
+    }
+}
+
+/// Reads the whole record at a place, and performs it.
+fn perform_whole<D: Disk>(
+    alloc: Global,
+    past: &mut Past<D>,
+    place: Place,
+    desk: &mut mail_desk::Desk,
+) -> Result<(), StartFault>
+    requires noted { AreNoted past.old.end desk.old }
+    requires place { place.gate + 5 + place.length ≤ past.old.end }
+    ensures performed { (payloads : List (List ℕ)) (payload : List ℕ) → TextsHeld (D.told past.old.disk) payloads desk.old.kept desk.old.notes desk.old.marks
+        → LiesAt payloads place.gate place.length payload
+        → OnOk result (Performed (after_record desk.old.kept) payload desk.new.kept) }
+    ensures bad { (payloads : List (List ℕ)) (payload : List ℕ) → TextsHeld (D.told past.old.disk) payloads desk.old.kept desk.old.notes desk.old.marks
+        → LiesAt payloads place.gate place.length payload
+        → IfErr result (FailsPayload (after_record desk.old.kept) payload place.gate) }
+    ensures texts { (payloads : List (List ℕ)) (payload : List ℕ) → TextsHeld (D.told past.old.disk) payloads desk.old.kept desk.old.notes desk.old.marks
+        → LiesAt payloads place.gate place.length payload
+        → OnOk result (TextsHeld (D.told past.new.disk) payloads desk.new.kept desk.new.notes desk.new.marks) }
+    ensures noted { OnOk result (AreNoted past.old.end desk.new) }
+    ensures still { IsPastRead D.told past.old past.new }
+    ensures ok { OnOk result ((D.told past.new.disk).failed_reads ≡ (D.told past.old.disk).failed_reads) }
+    ensures fault { IfErr result (ReadCounts (D.told past.old.disk) (D.told past.new.disk)) }
+{
+    one_spelling();
+    match record_at(alloc, past, place) {
+        Ok(what) => performed(alloc, past, desk, what, place),
+        Err(fault) => Err(fault),
+    }
+}
+
+/// Performs a record whose text is not read; where it can't stand its gate is told.
+fn performed_head<D: Disk>(
+    alloc: Global,
+    past: &Past<D>,
+    desk: &mut mail_desk::Desk,
+    head: HeadOf,
+    place: Place,
+) -> Result<(), StartFault>
+    requires head { IsHead head }
+    requires noted { AreNoted past.now.end desk.old }
+    requires place { place.gate + 5 + place.length ≤ past.now.end }
+    requires long { place.length ≡ length (record_bytes (headed head)) }
+    requires unfiltered { (store_of desk.old.kept).conf.filters ≡ [] }
+    ensures next { OnOk result (after_record desk.old.kept (headed head) ≡ Some desk.new.kept) }
+    ensures bad { IfErr result (Fails (after_record desk.old.kept (headed head) ≡ None) place.gate) }
+    ensures texts { (payloads : List (List ℕ)) → TextsHeld (D.told past.now.disk) payloads desk.old.kept desk.old.notes desk.old.marks
+        → LiesAt payloads place.gate place.length (record_bytes (headed head))
+        → OnOk result (TextsHeld (D.told past.now.disk) payloads desk.new.kept desk.new.notes desk.new.marks) }
+    ensures noted { OnOk result (AreNoted past.now.end desk.new) }
+{
+    revs_stay(desk);
+    match follow_head(alloc, desk, past.end(), head, place) {
+        Ok(stood) => {
+            if stood {
+                return Ok(());
+            }
+            Err(StartFault::Damaged { place: place.gate })
+        }
+        Err(NoMemory) => Err(StartFault::NoMemory),
+    }
+}
+
+/// Reads the record at a place but for its text, where that can be done, and performs it; no filter looks at the text.
+fn perform_unfiltered<D: Disk>(
+    alloc: Global,
+    past: &mut Past<D>,
+    place: Place,
+    desk: &mut mail_desk::Desk,
+) -> Result<(), StartFault>
+    requires noted { AreNoted past.old.end desk.old }
+    requires unfiltered { (store_of desk.old.kept).conf.filters ≡ [] }
+    requires place { place.gate + 5 + place.length ≤ past.old.end }
+    ensures performed { (payloads : List (List ℕ)) (payload : List ℕ) → TextsHeld (D.told past.old.disk) payloads desk.old.kept desk.old.notes desk.old.marks
+        → LiesAt payloads place.gate place.length payload
+        → OnOk result (Performed (after_record desk.old.kept) payload desk.new.kept) }
+    ensures bad { (payloads : List (List ℕ)) (payload : List ℕ) → TextsHeld (D.told past.old.disk) payloads desk.old.kept desk.old.notes desk.old.marks
+        → LiesAt payloads place.gate place.length payload
+        → IfErr result (FailsPayload (after_record desk.old.kept) payload place.gate) }
+    ensures texts { (payloads : List (List ℕ)) (payload : List ℕ) → TextsHeld (D.told past.old.disk) payloads desk.old.kept desk.old.notes desk.old.marks
+        → LiesAt payloads place.gate place.length payload
+        → OnOk result (TextsHeld (D.told past.new.disk) payloads desk.new.kept desk.new.notes desk.new.marks) }
+    ensures noted { OnOk result (AreNoted past.old.end desk.new) }
+    ensures still { IsPastRead D.told past.old past.new }
+    ensures ok { OnOk result ((D.told past.new.disk).failed_reads ≡ (D.told past.old.disk).failed_reads) }
+    ensures fault { IfErr result (ReadCounts (D.told past.old.disk) (D.told past.new.disk)) }
+{
+    one_spelling();
+    match head_at(alloc, past, place) {
+        Ok(Some(head)) => performed_head(alloc, past, desk, head, place),
+        Ok(None) => perform_whole(alloc, past, place, desk),
+        Err(fault) => Err(fault),
     }
 }
 
@@ -152,10 +250,10 @@ fn perform_at<D: Disk>(
     ensures ok { OnOk result ((D.told past.new.disk).failed_reads ≡ (D.told past.old.disk).failed_reads) }
     ensures fault { IfErr result (ReadCounts (D.told past.old.disk) (D.told past.new.disk)) }
 {
-    one_spelling();
-    match record_at(alloc, past, place) {
-        Ok(what) => performed(alloc, past, desk, what, place),
-        Err(fault) => Err(fault),
+    if desk.conf().filters.is_empty() {
+        perform_unfiltered(alloc, past, place, desk)
+    } else {
+        perform_whole(alloc, past, place, desk)
     }
 }
 
@@ -363,7 +461,7 @@ impl<D: Disk> Desk<D> {
         match survey(alloc, &mut disk) {
             Ok(seen) => opened(alloc, disk, seen),
             Err(LoadFault::NotFormatted) => Err((disk, StartFault::NotFormatted)),
-            Err(LoadFault::Damaged { .. }) => unreachable!(),
+            Err(LoadFault::Damaged { place }) => Err((disk, StartFault::Damaged { place })),
             Err(LoadFault::Disk) => Err((disk, StartFault::Disk)),
             Err(LoadFault::NoMemory) => Err((disk, StartFault::NoMemory)),
         }

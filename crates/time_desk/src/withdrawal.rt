@@ -35,6 +35,14 @@ use std::thread::Threads;
 use undo_base::{Copies, LAST_MOMENT, Name, NoMemory, Text};
 use undo_outside::{Disk, Gate};
 
+/// What is asked: at a moment, under a key, to take back the cycle of a number.
+#[derive(Clone, Copy)]
+struct Asked<'a> {
+    at: u64,
+    key: &'a Name,
+    of: u32,
+}
+
 /// A copy of the key, and the bytes of the record.
 fn key_and_bytes(
     alloc: Global,
@@ -120,7 +128,7 @@ fn fault_of(fault: SealFault) -> WithdrawFault
     match fault {
         SealFault::Disk => WithdrawFault::Disk,
         SealFault::NoMemory => WithdrawFault::NoMemory,
-        SealFault::Closed => unreachable!(),
+        SealFault::Closed => WithdrawFault::Closed,
     }
 }
 
@@ -174,70 +182,29 @@ fn withdrawal_made<D: Disk>(
     }
 }
 
-/// Withdraws a cycle under a new key on a desk that is not closed.
-fn withdraw_open<R: Threads + Sync, G: Gate, D: Disk, L: Ledger>(
-    rt: &R,
-    alloc: Global,
-    journal: &mut Journal<D>,
-    desk: &mut mail_desk::Desk,
-    at: u64,
-    key: &Name,
-    of: u32,
-    gate: &G,
-    steps: &mut Steps<L>,
-) -> Result<Report, WithdrawFault>
-    requires moment { at ≤ LAST_MOMENT }
-    requires open { journal.old.closed ≡ false }
-    requires anew { report_of desk.old.kept.reports key.now ≡ None }
-    requires noted { AreNoted journal.old.gate desk.old }
-    ensures done { IfOk result (λ report. Withdraws D.told at key.now of (lasting desk.old journal.old) (lasting desk.new journal.new) report) }
-    ensures noted { AreNoted journal.new.gate desk.new }
-    ensures err { OnErr result (desk.new.kept ≡ desk.old.kept) }
-    ensures notes { OnErr result (desk.new.notes ≡ desk.old.notes) }
-    ensures marks { OnErr result (desk.new.marks ≡ desk.old.marks) }
-    ensures why { IfErr result (λ fault. WithdrawsNone D.told at key.now of (lasting desk.old journal.old) (lasting desk.new journal.new) fault) }
-    ensures withdraws { (last : UndoneBehind) → undone_of desk.old.kept of ≡ Some last → HoldsTexts D.told (lasting desk.old journal.old)
-        → OnOk result (steps.new ≤ steps.old + most_reworked desk.old.kept 0 (withdrawn_at desk.old.kept at last)) }
-    ensures most { (last : UndoneBehind) → undone_of desk.old.kept of ≡ Some last → HoldsTexts D.told (lasting desk.old journal.old)
-        → OnErr result (steps.new ≤ steps.old + most_begun desk.old.kept 0 (withdrawn_at desk.old.kept at last)) }
-    ensures few { OnErr result (steps.new ≤ steps.old + length (items_asked desk.old.kept) + length desk.old.kept.house.accounts) }
-    ensures same { OnOk result ((D.told journal.new.disk).failed_reads ≡ (D.told journal.old.disk).failed_reads) }
-    ensures finds_memory { OnOk result (FindsMemory (D.told journal.old.disk) (D.told journal.new.disk)) }
-    ensures wants { IfErr result (λ fault. WithdrawalWants D.told journal.old.disk journal.new.disk fault) }
-    ensures steps { OnOk result (steps.new ≤ steps.old + length desk.new.kept.timeline) }
-{
-    desk.stands();
-    match redo::withdrawal(rt, alloc, journal, desk, at, of, gate, steps) {
-        Ok(made) => withdrawal_made(alloc, journal, desk, at, key, of, made),
-        Err(refused) => Err(refused_as(refused)),
-    }
-}
-
 /// Withdraws a cycle under a new key.
 fn withdraw_anew<R: Threads + Sync, G: Gate, D: Disk, L: Ledger>(
     rt: &R,
     alloc: Global,
     journal: &mut Journal<D>,
     desk: &mut mail_desk::Desk,
-    at: u64,
-    key: &Name,
-    of: u32,
+    asked: &Asked<'_>,
     gate: &G,
     steps: &mut Steps<L>,
 ) -> Result<Report, WithdrawFault>
-    requires moment { at ≤ LAST_MOMENT }
-    requires anew { report_of desk.old.kept.reports key.now ≡ None }
+    requires moment { asked.now.at ≤ LAST_MOMENT }
+    requires anew { report_of desk.old.kept.reports asked.now.key.now ≡ None }
     requires noted { AreNoted journal.old.gate desk.old }
-    ensures done { IfOk result (λ report. Withdraws D.told at key.now of (lasting desk.old journal.old) (lasting desk.new journal.new) report) }
+    ensures done { IfOk result (λ report. Withdraws D.told asked.now.at asked.now.key.now asked.now.of (lasting desk.old journal.old) (lasting desk.new journal.new) report) }
     ensures noted { AreNoted journal.new.gate desk.new }
     ensures err { OnErr result (desk.new.kept ≡ desk.old.kept) }
     ensures notes { OnErr result (desk.new.notes ≡ desk.old.notes) }
     ensures marks { OnErr result (desk.new.marks ≡ desk.old.marks) }
-    ensures why { IfErr result (λ fault. WithdrawsNone D.told at key.now of (lasting desk.old journal.old) (lasting desk.new journal.new) fault) }
-    ensures withdraws { (last : UndoneBehind) → undone_of desk.old.kept of ≡ Some last → HoldsTexts D.told (lasting desk.old journal.old)
-        → OnOk result (steps.new ≤ steps.old + most_reworked desk.old.kept 0 (withdrawn_at desk.old.kept at last)) }
-    ensures most { (last : UndoneBehind) → undone_of desk.old.kept of ≡ Some last → HoldsTexts D.told (lasting desk.old journal.old)
-        → OnErr result (steps.new ≤ steps.old + most_begun desk.old.kept 0 (withdrawn_at desk.old.kept at last)) }
+    ensures why { IfErr result (λ fault. WithdrawsNone D.told asked.now.at asked.now.key.now asked.now.of (lasting desk.old journal.old) (lasting desk.new journal.new) fault) }
+    ensures withdraws { (last : UndoneBehind) → undone_of desk.old.kept asked.now.of ≡ Some last → HoldsTexts D.told (lasting desk.old journal.old)
+        → OnOk result (steps.new ≤ steps.old + most_reworked desk.old.kept 0 (withdrawn_at desk.old.kept asked.now.at last)) }
+    ensures most { (last : UndoneBehind) → undone_of desk.old.kept asked.now.of ≡ Some last → HoldsTexts D.told (lasting desk.old journal.old)
+        → OnErr result (steps.new ≤ steps.old + most_begun desk.old.kept 0 (withdrawn_at desk.old.kept asked.now.at last)) }
     ensures few { OnErr result (steps.new ≤ steps.old + length (items_asked desk.old.kept) + length desk.old.kept.house.accounts) }
     ensures same { OnOk result ((D.told journal.new.disk).failed_reads ≡ (D.told journal.old.disk).failed_reads) }
     ensures finds_memory { OnOk result (FindsMemory (D.told journal.old.disk) (D.told journal.new.disk)) }
@@ -247,7 +214,11 @@ fn withdraw_anew<R: Threads + Sync, G: Gate, D: Disk, L: Ledger>(
     if journal.is_closed() {
         return Err(WithdrawFault::Closed);
     }
-    withdraw_open(rt, alloc, journal, desk, at, key, of, gate, steps)
+    desk.stands();
+    match redo::withdrawal(rt, alloc, journal, desk, asked.at, asked.of, gate, steps) {
+        Ok(made) => withdrawal_made(alloc, journal, desk, asked.at, asked.key, asked.of, made),
+        Err(refused) => Err(refused_as(refused)),
+    }
 }
 
 impl<D: Disk> Desk<D> {
@@ -294,9 +265,7 @@ impl<D: Disk> Desk<D> {
                 alloc,
                 &mut self.journal,
                 &mut self.desk,
-                at,
-                key,
-                of,
+                &Asked { at, key, of },
                 gate,
                 steps,
             ),

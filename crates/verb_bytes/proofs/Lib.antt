@@ -16,4 +16,5 @@ pub mod Found
 pub mod TimesLoop
 pub mod Cases
 pub mod Forms
+pub mod Around
 mod Rows

@@ -36,7 +36,7 @@ unfolding written bytes_of are_in_range
 one_written out true bytes = ap (λ (x : List ℕ). Some (out ++ x)) (append-nil bytes)
 one_written out false bytes = refl
 
-both_in_range : (a b : List Field) → are_in_range (a ++ b) ≡ (are_in_range a && are_in_range b)
+pub both_in_range : (a b : List Field) → are_in_range (a ++ b) ≡ (are_in_range a && are_in_range b)
 unfolding are_in_range
 both_in_range a b = list_all-append (λ (f : Field). f.in_range) a b
 

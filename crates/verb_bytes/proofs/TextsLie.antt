@@ -33,7 +33,7 @@ in_middle before text after =
     ∙ ap (λ (xs : List ℕ). take (length text) xs) (drop_at before (text ++ after) (length before) refl)
     ∙ take_at text after (length text) refl
 
-text_at : (before text after : List ℕ) → IsTextAt (before ++ (text ++ after)) (length before) text
+pub text_at : (before text after : List ℕ) → IsTextAt (before ++ (text ++ after)) (length before) text
 text_at before text after = record {
   within = omega (arith, length-append before (text ++ after), length-append text after);
   is = in_middle before text after;

@@ -6,3 +6,4 @@ pub mod Decoding
 pub mod Limits
 pub mod Readers
 pub mod Reading
+pub mod Holes

@@ -1,5 +1,9 @@
 //! What holds of every record and its bytes. These functions do nothing: their contracts are laws of the definitions.
-ghost use Rattle.std.specs.Prelude.{◌≡◌, ℕ, ◌≤◌, ◌⊎◌, ◌∷◌, List, IsTrue, length};
+//!
+//! That a record in its ranges has a spelling is a law for each kind (`openings_have_spellings`, `items_have_spellings`,
+//! `acts_have_spellings`, `cycles_have_spellings`, `snapshots_have_spellings`, `upgrades_have_spellings`,
+//! `withdrawals_have_spellings`).
+ghost use Rattle.std.specs.Prelude.{◌≡◌, ℕ, ◌+◌, ◌≤◌, ◌⊎◌, [], ◌∷◌, List, Some, IsTrue, length};
 ghost use Rattle.std.specs.List.{AllZip};
 ghost use Rattle.undo_base.specs.declared.limits.TheConstants.{LAST_MOMENT, MOST_KEYS};
 ghost use Rattle.undo_base.specs.Name.{IsName};
@@ -16,7 +20,8 @@ ghost use Rattle.verb_bytes.specs.declared.journal.JournalRecord.TheVariants.{Fo
 ghost use Rattle.verb_bytes.specs.Decoding.{IsBytes, IsRefused, IsRefusedAt, IsSpelled};
 ghost use Rattle.verb_bytes.specs.Fields.{most_of_four};
 ghost use Rattle.verb_bytes.specs.Limits.{delivery, AreMany, IsAct, IsAlias, IsAsked, IsCycleAsk, IsFilter, IsMail, IsOpening, IsRow};
-ghost use Rattle.verb_bytes.specs.Places.{text_places_of, texts_in, LiesThere};
+ghost use Rattle.verb_bytes.specs.Holes.{HasHole, SpellsAround, filled, own_text, parted};
+ghost use Rattle.verb_bytes.specs.Places.{IsTextAt, first_from, text_places_of, texts_in, LiesThere};
 ghost use Rattle.verb_bytes.specs.Spelling.{record_bytes, record_code, HasSpelling, Spells};
 
 /// Bytes spell one record at most, and a record has one spelling. Bytes spell a record or are refused, at one place.
@@ -99,4 +104,14 @@ pub fn spelled_withdrawals_have_moments()
 /// Each text of a record lies in its bytes at its place, in order.
 pub fn texts_lie_at_their_places()
     ensures { (what : JournalRecord) → HasSpelling what → AllZip (LiesThere (record_bytes what)) (text_places_of what) (texts_in what) }
+{}
+
+/// Where a record with an empty text is spelled by the bytes around a hole, one with another text is spelled by the bytes around
+/// that, and there the text lies.
+pub fn holes_are_filled()
+    ensures spells { (what : JournalRecord) (before count : ℕ) (front back : List ℕ) → HasHole what before count → before ≡ length front
+        → Spells what (parted front [] back) → SpellsAround front count back what }
+    ensures places { (what : JournalRecord) (text : List ℕ) → first_from (text_places_of (filled what text)) ≡ first_from (text_places_of what) }
+    ensures lies { (front text back : List ℕ) → IsTextAt (parted front text back) (length front + 4) text }
+    ensures again { (what : JournalRecord) (text : List ℕ) → own_text what ≡ Some text → filled what text ≡ what }
 {}

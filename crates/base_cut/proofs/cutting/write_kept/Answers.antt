@@ -6,7 +6,7 @@ use Rattle.verb_bytes.specs.Spelling.{record_bytes}
 use Rattle.base_cut.specs.declared.fault.CutFault.{CutFault}
 use Rattle.base_cut.specs.declared.fault.CutFault.TheVariants.{NoMemory}
 use Rattle.base_cut.specs.Cutting.{IsKeptOf, WritesSealed, body_of, texts_of, whole}
-use Rattle.base_cut.proofs.Around.{whole_none}
+use Rattle.verb_bytes.proofs.Around.{whole_none}
 use Rattle.base_cut.proofs.Told.{some_kept}
 use Rattle.base_cut.proofs.Writings.{at_exit, sealed_none}
 use Rattle.base_cut.proofs.cutting.write_kept.Goals as goal

@@ -2,8 +2,9 @@ use Rattle.std.proofs.Common.{◌≡◌, ◌≤◌, ◌∙◌, ◌+◌, ◌∷�
 use Rattle.verb_bytes.specs.declared.journal.JournalRecord.TheVariants.{Kept}
 use Rattle.verb_bytes.specs.Spelling.{record_bytes}
 use Rattle.base_cut.specs.declared.fault.CutFault.{CutFault}
-use Rattle.base_cut.specs.Cutting.{IsKeptOf, WritesSealed, parted, whole}
-use Rattle.base_cut.proofs.Around.{kept_parted}
+use Rattle.base_cut.specs.Cutting.{IsKeptOf, WritesSealed, whole}
+use Rattle.verb_bytes.specs.Holes.{parted}
+use Rattle.verb_bytes.proofs.Around.{kept_parted}
 use Rattle.base_cut.proofs.Told.{some_kept}
 use Rattle.base_cut.proofs.Writings.{at_exit, sealed_none, unwritten_stops}
 use Rattle.base_cut.proofs.cutting.write_kept_with_text.Goals as goal

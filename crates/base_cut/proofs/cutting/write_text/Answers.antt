@@ -4,8 +4,9 @@ use Rattle.verb_bytes.specs.declared.journal.JournalRecord.TheVariants.{Text}
 use Rattle.verb_bytes.specs.Spelling.{record_bytes}
 use Rattle.base_cut.specs.declared.fault.CutFault.{CutFault}
 use Rattle.base_cut.specs.declared.fault.CutFault.TheVariants.{NoMemory}
-use Rattle.base_cut.specs.Cutting.{IsTextOf, ReadsFor, WritesSealed, parted}
-use Rattle.base_cut.proofs.Around.{text_bytes}
+use Rattle.base_cut.specs.Cutting.{IsTextOf, ReadsFor, WritesSealed}
+use Rattle.verb_bytes.specs.Holes.{parted}
+use Rattle.verb_bytes.proofs.Around.{text_bytes}
 use Rattle.base_cut.proofs.Told.{reads_written, some_text}
 use Rattle.base_cut.proofs.Writings.{at_exit, sealed_none, unwritten_stops}
 use Rattle.base_cut.proofs.cutting.write_text.Goals as goal

@@ -1,6 +1,7 @@
 use Rattle.std.proofs.Common.{◌∙◌, ◌+◌, ◌∷◌, [], List, ℕ, arith, inr, length, refl, subst}
 use Rattle.base_cut.specs.declared.fault.CutFault.TheVariants.{NoMemory}
-use Rattle.base_cut.specs.Cutting.{Writes, WritesSealed, parted}
+use Rattle.base_cut.specs.Cutting.{Writes, WritesSealed}
+use Rattle.verb_bytes.specs.Holes.{parted}
 use Rattle.base_cut.proofs.Frames.{parted_bytes, parted_fits}
 use Rattle.base_cut.proofs.Writings.{at_exit, sealed_none, sealed_one}
 use Rattle.base_cut.proofs.framing.write_with_text.Goals as goal

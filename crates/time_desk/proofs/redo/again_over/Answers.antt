@@ -1,8 +1,10 @@
-use Rattle.std.proofs.Common.{◌≡◌, refl, subst}
+use Rattle.std.proofs.Common.{◌≡◌, Err, refl, subst}
 use Rattle.store_kept.specs.Kept.{Kept}
 use Rattle.cycle_rules.specs.Asking.{IsRewinds, due_anew}
 use Rattle.mail_cycle.specs.Refusing.{IsRefusalOf}
-use Rattle.time_desk.proofs.Rewinding.{reworks_as, asked_can, comes_back, cycle_failed, cycle_redone, cycle_undue, cycle_wanting, of_begun}
+use Rattle.mail_cycle.specs.declared.refused.CycleRefused.{CycleRefused}
+use Rattle.time_desk.specs.Cycling.{RedoesAlone}
+use Rattle.time_desk.proofs.Rewinding.{by_cause, reworks_as, asked_can, comes_back, cycle_failed, cycle_redone, cycle_undue, cycle_wanting, of_begun}
 use Rattle.time_desk.proofs.redo.again_over.Goals as goal
 
 pub again-requires-clause-can : goal.again-requires-clause-can
@@ -18,15 +20,15 @@ returns-in-Ok-again-clause-redoes g c =
     (of_begun _ _ c.args.at c.args.ask.now c.in-Ok.due c.begun.ensures c.in-Ok.ensures.due) c.in-Ok-again.ensures
     (λ honest cycled. comes_back c.cycles_can_be_withdrawn.ensures.items desk.kept c.args.at c.args.ask.now honest c.in-Ok-again.made cycled c.in-Ok-again.ensures.fit c.stands.ensures.base c.stands.ensures.timeline c.stands.ensures.below)).alone
 
-pub returns-in-Err-Failed-clause-redoes : goal.returns-in-Err-Failed-clause-redoes
-returns-in-Err-Failed-clause-redoes g c =
-    (cycle_failed g.D.Disk.told c.args.desk.now c.args.at c.args.ask.now c.in-Ok.due c.args.past.now c.again.new.past (c.again.new.past ≡ c.args.past.now) _ _
-    (of_begun _ _ c.args.at c.args.ask.now c.in-Ok.due c.begun.ensures c.in-Ok.ensures.due) (reworks_as g.D.Disk.told c.args.desk.now c.in-Ok.due c.args.past.now c.again.new.past c.new-steps.result c.again.new.steps c.in-Err-Failed.field-0 _ c.in-Err-Failed.field-0-is c.in-Err-Failed.ensures)).alone
-
 pub returns-in-Ok-clause-redoes : goal.returns-in-Ok-clause-redoes
 returns-in-Ok-clause-redoes g c =
+    by_cause c.in-Err-again.fault c.refused_for.result (λ (r : CycleRefused). RedoesAlone g.D.Disk.told c.args.desk.now c.args.at c.args.ask.now c.args.past.now.disk c.again.new.past.disk (Err r)) c.refused_for.ensures
+    (λ failed.
+    (cycle_failed g.D.Disk.told c.args.desk.now c.args.at c.args.ask.now c.in-Ok.due c.args.past.now c.again.new.past (c.again.new.past ≡ c.args.past.now) _ _
+    (of_begun _ _ c.args.at c.args.ask.now c.in-Ok.due c.begun.ensures c.in-Ok.ensures.due) (reworks_as g.D.Disk.told c.args.desk.now c.in-Ok.due c.args.past.now c.again.new.past c.new-steps.result c.again.new.steps c.in-Err-again.fault _ failed c.in-Err-again.ensures)).alone)
+    (λ wanting.
     (cycle_wanting g.D.Disk.told c.args.desk.now c.args.at c.args.ask.now c.in-Ok.due c.args.past.now c.again.new.past (c.again.new.past ≡ c.args.past.now) _ _
-    (of_begun _ _ c.args.at c.args.ask.now c.in-Ok.due c.begun.ensures c.in-Ok.ensures.due) (reworks_as g.D.Disk.told c.args.desk.now c.in-Ok.due c.args.past.now c.again.new.past c.new-steps.result c.again.new.steps c.in-Err-NoMemory.field-0 _ c.in-Err-NoMemory.field-0-is c.in-Err-NoMemory.ensures)).alone
+    (of_begun _ _ c.args.at c.args.ask.now c.in-Ok.due c.begun.ensures c.in-Ok.ensures.due) (reworks_as g.D.Disk.told c.args.desk.now c.in-Ok.due c.args.past.now c.again.new.past c.new-steps.result c.again.new.steps c.in-Err-again.fault _ wanting c.in-Err-again.ensures)).alone)
 
 pub returns-clause-redoes : goal.returns-clause-redoes
 returns-clause-redoes g c =

@@ -1,8 +1,10 @@
-use Rattle.std.proofs.Common.{◌≡◌, refl, subst}
+use Rattle.std.proofs.Common.{◌≡◌, Err, refl, subst}
 use Rattle.store_kept.specs.Kept.{Kept}
 use Rattle.cycle_rules.specs.Asking.{IsRewinds, due_anew}
 use Rattle.mail_cycle.specs.Refusing.{IsRefusalOf}
-use Rattle.time_desk.proofs.Rewinding.{reworks_as, asked_can, comes_back, cycle_failed, cycle_redone, cycle_undue, cycle_wanting, of_begun}
+use Rattle.mail_cycle.specs.declared.refused.CycleRefused.{CycleRefused}
+use Rattle.time_desk.specs.Cycling.{RedoesCycle}
+use Rattle.time_desk.proofs.Rewinding.{by_cause, reworks_as, asked_can, comes_back, cycle_failed, cycle_redone, cycle_undue, cycle_wanting, of_begun}
 use Rattle.time_desk.proofs.redo.cycle_before.Goals as goal
 
 pub rewound-requires-clause-can : goal.rewound-requires-clause-can
@@ -18,15 +20,15 @@ returns-in-Ok-rewound-clause-redoes g c =
     (of_begun _ _ c.args.at c.args.ask.now c.in-Ok.due c.begun.ensures c.in-Ok.ensures.due) c.in-Ok-rewound.ensures
     (λ honest cycled. comes_back c.cycles_can_be_withdrawn.ensures.items desk.kept c.args.at c.args.ask.now honest c.in-Ok-rewound.made cycled c.in-Ok-rewound.ensures.fit c.stands.ensures.base c.stands.ensures.timeline c.stands.ensures.below))
 
-pub returns-in-Err-Failed-clause-redoes : goal.returns-in-Err-Failed-clause-redoes
-returns-in-Err-Failed-clause-redoes g c =
-    (cycle_failed g.D.Disk.told c.args.desk.now c.args.at c.args.ask.now c.in-Ok.due c.args.past.now c.rewound.new.past (c.rewound.new.past ≡ c.args.past.now) _ _
-    (of_begun _ _ c.args.at c.args.ask.now c.in-Ok.due c.begun.ensures c.in-Ok.ensures.due) (reworks_as g.D.Disk.told c.args.desk.now c.in-Ok.due c.args.past.now c.rewound.new.past c.args.steps.now c.rewound.new.steps c.in-Err-Failed.field-0 _ c.in-Err-Failed.field-0-is c.in-Err-Failed.ensures))
-
 pub returns-in-Ok-clause-redoes : goal.returns-in-Ok-clause-redoes
 returns-in-Ok-clause-redoes g c =
+    by_cause c.in-Err-rewound.fault c.refused_for.result (λ (r : CycleRefused). RedoesCycle g.D.Disk.told c.args.desk.now c.args.at c.args.ask.now c.args.past.now.disk c.rewound.new.past.disk (c.rewound.new.past ≡ c.args.past.now) c.args.steps.now c.rewound.new.steps (Err r)) c.refused_for.ensures
+    (λ failed.
+    (cycle_failed g.D.Disk.told c.args.desk.now c.args.at c.args.ask.now c.in-Ok.due c.args.past.now c.rewound.new.past (c.rewound.new.past ≡ c.args.past.now) _ _
+    (of_begun _ _ c.args.at c.args.ask.now c.in-Ok.due c.begun.ensures c.in-Ok.ensures.due) (reworks_as g.D.Disk.told c.args.desk.now c.in-Ok.due c.args.past.now c.rewound.new.past c.args.steps.now c.rewound.new.steps c.in-Err-rewound.fault _ failed c.in-Err-rewound.ensures)))
+    (λ wanting.
     (cycle_wanting g.D.Disk.told c.args.desk.now c.args.at c.args.ask.now c.in-Ok.due c.args.past.now c.rewound.new.past (c.rewound.new.past ≡ c.args.past.now) _ _
-    (of_begun _ _ c.args.at c.args.ask.now c.in-Ok.due c.begun.ensures c.in-Ok.ensures.due) (reworks_as g.D.Disk.told c.args.desk.now c.in-Ok.due c.args.past.now c.rewound.new.past c.args.steps.now c.rewound.new.steps c.in-Err-NoMemory.field-0 _ c.in-Err-NoMemory.field-0-is c.in-Err-NoMemory.ensures))
+    (of_begun _ _ c.args.at c.args.ask.now c.in-Ok.due c.begun.ensures c.in-Ok.ensures.due) (reworks_as g.D.Disk.told c.args.desk.now c.in-Ok.due c.args.past.now c.rewound.new.past c.args.steps.now c.rewound.new.steps c.in-Err-rewound.fault _ wanting c.in-Err-rewound.ensures)))
 
 pub returns-clause-redoes : goal.returns-clause-redoes
 returns-clause-redoes g c =

@@ -7,7 +7,9 @@ use Rattle.verb_core.specs.Items.{IsTimeline}
 use Rattle.withdraw.specs.Coming.{CanComeBack}
 use Rattle.mail_cycle.specs.Refusing.{IsRefusalBy}
 use Rattle.mail_cycle.specs.Tasks.{withdrawal_task}
-use Rattle.time_desk.proofs.Rewinding.{reworks_as}
+use Rattle.mail_cycle.specs.declared.refused.CycleRefused.{CycleRefused}
+use Rattle.time_desk.specs.Withdrawing.{WithdrawsInSteps}
+use Rattle.time_desk.proofs.Rewinding.{by_cause, reworks_as}
 use Rattle.time_desk.proofs.Telling.{tells_restored}
 use Rattle.time_desk.proofs.Withdrawing.{withdrawal_can, withdrawal_failed, withdrawal_redone, withdrawal_undue, withdrawal_wanting}
 use Rattle.time_desk.proofs.redo.withdrawal_before.Goals as goal
@@ -35,15 +37,15 @@ returns-in-Ok-rewound-clause-redoes g c of is_last =
     (withdrawal_redone g.D.Disk.told c.args.desk.now c.args.at of c.args.last.now is_last (subst (λ (k : Kept). leaves_numbers_for k 0 ≡ true) c.begun.ensures c.in-Ok.ensures.left) c.in-Ok.due c.args.past.now c.rewound.new.past
     (c.rewound.new.past ≡ c.args.past.now) _ _ c.in-Ok-rewound.made (c.in-Ok.ensures.due ∙ ap (λ (k : Kept). withdrawal_task k c.args.at c.args.last.now) c.begun.ensures) c.in-Ok-rewound.ensures)
 
-pub returns-in-Err-Failed-clause-redoes : goal.returns-in-Err-Failed-clause-redoes
-returns-in-Err-Failed-clause-redoes g c of is_last =
-    (withdrawal_failed g.D.Disk.told c.args.desk.now c.args.at of c.args.last.now is_last (subst (λ (k : Kept). leaves_numbers_for k 0 ≡ true) c.begun.ensures c.in-Ok.ensures.left) c.in-Ok.due c.args.past.now c.rewound.new.past
-    (c.rewound.new.past ≡ c.args.past.now) _ _ c.stands.ensures.undone (c.in-Ok.ensures.due ∙ ap (λ (k : Kept). withdrawal_task k c.args.at c.args.last.now) c.begun.ensures) (reworks_as g.D.Disk.told c.args.desk.now c.in-Ok.due c.args.past.now c.rewound.new.past c.args.steps.now c.rewound.new.steps c.in-Err-Failed.field-0 _ c.in-Err-Failed.field-0-is c.in-Err-Failed.ensures))
-
 pub returns-in-Ok-clause-redoes : goal.returns-in-Ok-clause-redoes
 returns-in-Ok-clause-redoes g c of is_last =
+    by_cause c.in-Err-rewound.fault c.refused_for.result (λ (r : CycleRefused). WithdrawsInSteps g.D.Disk.told c.args.desk.now c.args.at of c.args.past.now.disk c.rewound.new.past.disk (c.rewound.new.past ≡ c.args.past.now) c.args.steps.now c.rewound.new.steps (Err r)) c.refused_for.ensures
+    (λ failed.
+    (withdrawal_failed g.D.Disk.told c.args.desk.now c.args.at of c.args.last.now is_last (subst (λ (k : Kept). leaves_numbers_for k 0 ≡ true) c.begun.ensures c.in-Ok.ensures.left) c.in-Ok.due c.args.past.now c.rewound.new.past
+    (c.rewound.new.past ≡ c.args.past.now) _ _ c.stands.ensures.undone (c.in-Ok.ensures.due ∙ ap (λ (k : Kept). withdrawal_task k c.args.at c.args.last.now) c.begun.ensures) (reworks_as g.D.Disk.told c.args.desk.now c.in-Ok.due c.args.past.now c.rewound.new.past c.args.steps.now c.rewound.new.steps c.in-Err-rewound.fault _ failed c.in-Err-rewound.ensures)))
+    (λ wanting.
     (withdrawal_wanting g.D.Disk.told c.args.desk.now c.args.at of c.args.last.now is_last (subst (λ (k : Kept). leaves_numbers_for k 0 ≡ true) c.begun.ensures c.in-Ok.ensures.left) c.in-Ok.due c.args.past.now c.rewound.new.past
-    (c.rewound.new.past ≡ c.args.past.now) _ _ c.stands.ensures.undone (c.in-Ok.ensures.due ∙ ap (λ (k : Kept). withdrawal_task k c.args.at c.args.last.now) c.begun.ensures) (reworks_as g.D.Disk.told c.args.desk.now c.in-Ok.due c.args.past.now c.rewound.new.past c.args.steps.now c.rewound.new.steps c.in-Err-NoMemory.field-0 _ c.in-Err-NoMemory.field-0-is c.in-Err-NoMemory.ensures))
+    (c.rewound.new.past ≡ c.args.past.now) _ _ c.stands.ensures.undone (c.in-Ok.ensures.due ∙ ap (λ (k : Kept). withdrawal_task k c.args.at c.args.last.now) c.begun.ensures) (reworks_as g.D.Disk.told c.args.desk.now c.in-Ok.due c.args.past.now c.rewound.new.past c.args.steps.now c.rewound.new.steps c.in-Err-rewound.fault _ wanting c.in-Err-rewound.ensures)))
 
 pub returns-clause-redoes : goal.returns-clause-redoes
 returns-clause-redoes g c of is_last =

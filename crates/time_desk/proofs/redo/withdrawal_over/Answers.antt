@@ -7,7 +7,9 @@ use Rattle.verb_core.specs.Items.{IsTimeline}
 use Rattle.withdraw.specs.Coming.{CanComeBack}
 use Rattle.mail_cycle.specs.Refusing.{IsRefusalBy}
 use Rattle.mail_cycle.specs.Tasks.{withdrawal_task}
-use Rattle.time_desk.proofs.Rewinding.{reworks_as}
+use Rattle.mail_cycle.specs.declared.refused.CycleRefused.{CycleRefused}
+use Rattle.time_desk.specs.Withdrawing.{WithdrawsAlone}
+use Rattle.time_desk.proofs.Rewinding.{by_cause, reworks_as}
 use Rattle.time_desk.proofs.Telling.{tells_restored}
 use Rattle.time_desk.proofs.Withdrawing.{withdrawal_can, withdrawal_failed, withdrawal_redone, withdrawal_undue, withdrawal_wanting}
 use Rattle.time_desk.proofs.redo.withdrawal_over.Goals as goal
@@ -35,15 +37,15 @@ returns-in-Ok-again-clause-redoes g c of is_last =
     (withdrawal_redone g.D.Disk.told c.args.desk.now c.args.at of c.args.last.now is_last (subst (λ (k : Kept). leaves_numbers_for k 0 ≡ true) c.begun.ensures c.in-Ok.ensures.left) c.in-Ok.due c.args.past.now c.again.new.past
     (c.again.new.past ≡ c.args.past.now) _ _ c.in-Ok-again.made (c.in-Ok.ensures.due ∙ ap (λ (k : Kept). withdrawal_task k c.args.at c.args.last.now) c.begun.ensures) c.in-Ok-again.ensures).alone
 
-pub returns-in-Err-Failed-clause-redoes : goal.returns-in-Err-Failed-clause-redoes
-returns-in-Err-Failed-clause-redoes g c of is_last =
-    (withdrawal_failed g.D.Disk.told c.args.desk.now c.args.at of c.args.last.now is_last (subst (λ (k : Kept). leaves_numbers_for k 0 ≡ true) c.begun.ensures c.in-Ok.ensures.left) c.in-Ok.due c.args.past.now c.again.new.past
-    (c.again.new.past ≡ c.args.past.now) _ _ c.stands.ensures.undone (c.in-Ok.ensures.due ∙ ap (λ (k : Kept). withdrawal_task k c.args.at c.args.last.now) c.begun.ensures) (reworks_as g.D.Disk.told c.args.desk.now c.in-Ok.due c.args.past.now c.again.new.past c.new-steps.result c.again.new.steps c.in-Err-Failed.field-0 _ c.in-Err-Failed.field-0-is c.in-Err-Failed.ensures)).alone
-
 pub returns-in-Ok-clause-redoes : goal.returns-in-Ok-clause-redoes
 returns-in-Ok-clause-redoes g c of is_last =
+    by_cause c.in-Err-again.fault c.refused_for.result (λ (r : CycleRefused). WithdrawsAlone g.D.Disk.told c.args.desk.now c.args.at of c.args.past.now.disk c.again.new.past.disk (Err r)) c.refused_for.ensures
+    (λ failed.
+    (withdrawal_failed g.D.Disk.told c.args.desk.now c.args.at of c.args.last.now is_last (subst (λ (k : Kept). leaves_numbers_for k 0 ≡ true) c.begun.ensures c.in-Ok.ensures.left) c.in-Ok.due c.args.past.now c.again.new.past
+    (c.again.new.past ≡ c.args.past.now) _ _ c.stands.ensures.undone (c.in-Ok.ensures.due ∙ ap (λ (k : Kept). withdrawal_task k c.args.at c.args.last.now) c.begun.ensures) (reworks_as g.D.Disk.told c.args.desk.now c.in-Ok.due c.args.past.now c.again.new.past c.new-steps.result c.again.new.steps c.in-Err-again.fault _ failed c.in-Err-again.ensures)).alone)
+    (λ wanting.
     (withdrawal_wanting g.D.Disk.told c.args.desk.now c.args.at of c.args.last.now is_last (subst (λ (k : Kept). leaves_numbers_for k 0 ≡ true) c.begun.ensures c.in-Ok.ensures.left) c.in-Ok.due c.args.past.now c.again.new.past
-    (c.again.new.past ≡ c.args.past.now) _ _ c.stands.ensures.undone (c.in-Ok.ensures.due ∙ ap (λ (k : Kept). withdrawal_task k c.args.at c.args.last.now) c.begun.ensures) (reworks_as g.D.Disk.told c.args.desk.now c.in-Ok.due c.args.past.now c.again.new.past c.new-steps.result c.again.new.steps c.in-Err-NoMemory.field-0 _ c.in-Err-NoMemory.field-0-is c.in-Err-NoMemory.ensures)).alone
+    (c.again.new.past ≡ c.args.past.now) _ _ c.stands.ensures.undone (c.in-Ok.ensures.due ∙ ap (λ (k : Kept). withdrawal_task k c.args.at c.args.last.now) c.begun.ensures) (reworks_as g.D.Disk.told c.args.desk.now c.in-Ok.due c.args.past.now c.again.new.past c.new-steps.result c.again.new.steps c.in-Err-again.fault _ wanting c.in-Err-again.ensures)).alone)
 
 pub returns-clause-redoes : goal.returns-clause-redoes
 returns-clause-redoes g c of is_last =

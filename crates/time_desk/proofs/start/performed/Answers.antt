@@ -1,7 +1,8 @@
-use Rattle.std.proofs.Common.{◌≡◌, Bool, Some, refl, subst}
+use Rattle.std.proofs.Common.{◌≡◌, Bool, None, Some, refl, subst, sym}
 use Rattle.desk_journal.specs.Records.{after_record}
-use Rattle.time_desk.specs.Standing.{Performs}
+use Rattle.time_desk.specs.Standing.{FailsReading, Performs, ReadCounts}
 use Rattle.desk_journal.proofs.Staying.{holds_on}
+use Rattle.time_desk.proofs.Standings.{unread_counts, unread_fails}
 use Rattle.time_desk.proofs.start.performed.Goals as goal
 
 pub returns-then-stood-clause-next : goal.returns-then-stood-clause-next
@@ -24,3 +25,12 @@ returns-then-stood-clause-texts g c payloads texts lies =
 pub returns-else-stood-clause-bad : goal.returns-else-stood-clause-bad
 returns-else-stood-clause-bad g c payloads texts =
     (subst (λ (b : Bool). Performs (after_record c.args.desk.now.kept c.args.what) b c.follow.new.desk.kept) c.if-stood.false (c.in-Ok.ensures.performed payloads texts), refl)
+
+pub returns-in-Err-clause-bad : goal.returns-in-Err-clause-bad
+returns-in-Err-clause-bad g c payloads texts =
+    let none = after_record c.args.desk.now.kept c.args.what ≡ None in
+    subst (FailsReading none c.args.place.gate) (sym c.fault_of_read.ensures) (unread_fails none c.args.place.gate c.in-Err.fault)
+
+pub returns-in-Err-clause-fault : goal.returns-in-Err-clause-fault
+returns-in-Err-clause-fault g c =
+    subst (ReadCounts (g.D.Disk.told c.args.past.now.disk) (g.D.Disk.told c.follow.new.past.disk)) (sym c.fault_of_read.ensures) (unread_counts (g.D.Disk.told c.args.past.now.disk) (g.D.Disk.told c.follow.new.past.disk) c.in-Err.fault c.in-Err.ensures.cause)
