@@ -10,7 +10,7 @@ use Rattle.console_head.specs.Lines.{head_of}
 use Rattle.console_head.specs.declared.request.HeadRefused.TheVariants.{Head as BadHead, Size}
 use Rattle.console_head.specs.Lengths.{body_length}
 use Rattle.console_head.specs.Request.{Says, SaysFields, Stage, with_length}
-use Rattle.console_head.proofs.Once.{Holds, holds}
+use Rattle.console_head.proofs.Once.{StaysAsRead, holds}
 
 abbrev waiting : Stage
 waiting = Ok None
@@ -46,7 +46,7 @@ head_bounded bytes says none = head_waits bytes waiting (rw none at says) refl
 pub body_bounded : (bytes : List ℕ) (first : Head) → Says bytes (Ok None) → head_of (take 16384 bytes) ≡ Some first → (first.size ≤ 16384) × (length (drop first.size bytes) < 4194304)
 body_bounded bytes first says whole = (by_holds (holds (take 16384 bytes)), fields_wait (nat_lt 64 first.fields) (take first.size bytes) (drop first.size bytes) (rw whole at says))
   where
-    by_holds : Holds (take 16384 bytes) → first.size ≤ 16384
+    by_holds : StaysAsRead (take 16384 bytes) → first.size ≤ 16384
     by_holds (inl none) = absurd (let wrong : None ≡ Some first = sym none ∙ whole in cc)
     by_holds (inr head) =
         let same : Some first ≡ Some head.0 = sym whole ∙ head.1.value in
@@ -54,7 +54,7 @@ body_bounded bytes first says whole = (by_holds (holds (take 16384 bytes)), fiel
         let within = head.1.within in
         rw is (omega (arith, within, length-take 16384 bytes))
 
-by_head : (bytes : List ℕ) → Holds (take 16384 bytes) → Says bytes (Ok None) → length bytes < 4210688
+by_head : (bytes : List ℕ) → StaysAsRead (take 16384 bytes) → Says bytes (Ok None) → length bytes < 4210688
 by_head bytes (inl none) says = let short = head_bounded bytes says none in omega arith
 by_head bytes (inr head) says =
     let rest : length (drop head.0.size bytes) < 4194304 = fields_wait (nat_lt 64 head.0.fields) (take head.0.size bytes) (drop head.0.size bytes) (rw head.1.value at says) in

@@ -64,17 +64,17 @@ moved l m line count s f None = refl
 moved l m line count s f (Some h) = ap Some (same_head _ _ _ _ (omega (arith, s)) (omega (arith, f)))
 
 -- a line that comes next, and what is behind it
-pub record IsNext (l : Lines) (bytes line : List ℕ) : Type 0 where
+pub record IsNextLine (l : Lines) (bytes line : List ℕ) : Type 0 where
   pub bound : l.start + length line ≤ length bytes
   pub some : 0 < length line
   pub lines : (more : List ℕ) → lines_of (drop l.start bytes ++ more) ≡ line ∷ lines_of (drop (l.start + length line) bytes ++ more)
 
 -- a header line, and the request line
-field_next : (l : Lines) (bytes line : List ℕ) → IsNext l bytes line → is_empty_line line ≡ false → l.begun ≡ true → (more : List ℕ)
+field_next : (l : Lines) (bytes line : List ℕ) → IsNextLine l bytes line → is_empty_line line ≡ false → l.begun ≡ true → (more : List ℕ)
     → resumed l (drop l.start bytes ++ more) ≡ option_map (behind line 1) (section_of (lines_of (drop (l.start + length line) bytes ++ more)))
 field_next l bytes line next e g more = rw (g, next.lines more, e) refl
 
-request_next : (l : Lines) (bytes line : List ℕ) → IsNext l bytes line → is_empty_line line ≡ false → l.begun ≡ false → (more : List ℕ)
+request_next : (l : Lines) (bytes line : List ℕ) → IsNextLine l bytes line → is_empty_line line ≡ false → l.begun ≡ false → (more : List ℕ)
     → resumed l (drop l.start bytes ++ more) ≡ option_map (behind line 0) (section_of (lines_of (drop (l.start + length line) bytes ++ more)))
 request_next l bytes line next e g more = rw (g, next.lines more, e) refl
 
@@ -84,7 +84,7 @@ more_fields g n e = rw e refl
 same_fields : (g : Bool) (n : ℕ) → g ≡ false → (if g then n + 1 else n) ≡ n + 0
 same_fields g n e = rw e (omega arith)
 
-first_with_line : (l : Lines) (bytes line : List ℕ) → AreFirst l bytes → IsNext l bytes line → is_empty_line line ≡ false → AreFirst (with_line l line) bytes
+first_with_line : (l : Lines) (bytes line : List ℕ) → AreFirst l bytes → IsNextLine l bytes line → is_empty_line line ≡ false → AreFirst (with_line l line) bytes
 first_with_line l bytes line first next e = record {
   within = omega (arith, next.bound);
   fields = elim l.begun as (λ g. (if g then l.fields + 1 else l.fields) ≤ l.start + length line) [
@@ -98,7 +98,7 @@ first_with_line l bytes line first next e = record {
   ] refl;
 }
 
-first_with_empty : (l : Lines) (bytes line : List ℕ) → AreFirst l bytes → IsNext l bytes line → is_empty_line line ≡ true → l.begun ≡ false → AreFirst (with_empty l line) bytes
+first_with_empty : (l : Lines) (bytes line : List ℕ) → AreFirst l bytes → IsNextLine l bytes line → is_empty_line line ≡ true → l.begun ≡ false → AreFirst (with_empty l line) bytes
 first_with_empty l bytes line first next e g = record {
   within = omega (arith, next.bound);
   fields = omega (arith, first.fields);
@@ -106,13 +106,13 @@ first_with_empty l bytes line first next e g = record {
   same = λ more. first.same more ∙ rw (g, next.lines more, e) (moved l (with_empty l line) line 0 refl (omega arith) _);
 }
 
-whole : (l : Lines) (bytes line : List ℕ) → AreFirst l bytes → IsNext l bytes line → is_empty_line line ≡ true → l.begun ≡ true
+whole : (l : Lines) (bytes line : List ℕ) → AreFirst l bytes → IsNextLine l bytes line → is_empty_line line ≡ true → l.begun ≡ true
     → (more : List ℕ) → head_of (bytes ++ more) ≡ Some (record { size = l.start + length line; fields = l.fields })
 whole l bytes line first next e g more = first.same more ∙ rw (g, next.lines more, e) (ap Some (same_head _ _ _ _ refl (omega arith)))
 
 -- the next line, as it is found
 next_line : (l : Lines) (bytes : List ℕ) (place : ℕ) → AreFirst l bytes → place < length (drop l.start bytes) → HasNoLf (drop l.start bytes) place
-    → get_or (drop l.start bytes) place 0 ≡ 10 → IsNext l bytes (take (suc place) (drop l.start bytes))
+    → get_or (drop l.start bytes) place 0 ≡ 10 → IsNextLine l bytes (take (suc place) (drop l.start bytes))
 next_line l bytes place first within before here =
     let rest = length-drop l.start bytes in
     let long : length (take (suc place) (drop l.start bytes)) ≡ suc place = length-take-le (suc place) (drop l.start bytes) (omega (arith, within)) in
@@ -122,7 +122,7 @@ next_line l bytes place first within before here =
       lines = λ more. rw (long, sym (drop-drop (suc place) l.start bytes)) (lines_at (drop l.start bytes) more place within before here);
     }
 
-at_once : (l : Lines) (bytes line : List ℕ) → AreFirst l bytes → IsNext l bytes line → is_empty_line line ≡ true → l.begun ≡ true
+at_once : (l : Lines) (bytes line : List ℕ) → AreFirst l bytes → IsNextLine l bytes line → is_empty_line line ≡ true → l.begun ≡ true
     → head_of bytes ≡ Some (record { size = l.start + length line; fields = l.fields })
 at_once l bytes line first next e g = sym (ap head_of (append-nil bytes)) ∙ whole l bytes line first next e g []
 
@@ -138,7 +138,7 @@ Shows l bytes m found = AreFirst m bytes × Finds l m bytes found
 abbrev shows : (l : Lines) (bytes : List ℕ) (m n : Lines) (f g : Found) → m ≡ n → f ≡ g → Shows l bytes n g → Shows l bytes m f
 shows l bytes m n f g d e s = subst (λ (v : Lines). Shows l bytes v f) (sym d) (subst (λ (v : Found). Shows l bytes n v) (sym e) s)
 
-shown : (l : Lines) (bytes line : List ℕ) → AreFirst l bytes → IsNext l bytes line → Shows l bytes (lines_with l line) (shown_by l line)
+shown : (l : Lines) (bytes line : List ℕ) → AreFirst l bytes → IsNextLine l bytes line → Shows l bytes (lines_with l line) (shown_by l line)
 shown l bytes line first next =
     elim (is_empty_line line) as (λ e. is_empty_line line ≡ e → Shows l bytes (lines_with l line) (shown_by l line)) [
       | false ↦ λ e. shows l bytes _ (with_line l line) _ Line (if_false _ _ _ e) (if_false _ _ _ e) (first_with_line l bytes line first next e, omega (arith, next.some))
@@ -156,7 +156,7 @@ pub line_taken : (l : Lines) (bytes : List ℕ) (place : ℕ) → AreFirst l byt
     → let line = take (place + 1) (drop l.start bytes) in Shows l bytes (lines_with l line) (shown_by l line)
 line_taken l bytes place first within before here =
     let e : place + 1 ≡ suc place = omega arith in
-    shown l bytes _ first (subst (λ (n : ℕ). IsNext l bytes (take n (drop l.start bytes))) (sym e) (next_line l bytes place first within before here))
+    shown l bytes _ first (subst (λ (n : ℕ). IsNextLine l bytes (take n (drop l.start bytes))) (sym e) (next_line l bytes place first within before here))
 
 -- no further line
 pub none_taken : (l : Lines) (bytes : List ℕ) → AreFirst l bytes → HasNoLf (drop l.start bytes) (length (drop l.start bytes)) → head_of bytes ≡ None

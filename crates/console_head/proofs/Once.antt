@@ -69,16 +69,16 @@ pub record Stays (bytes : List ℕ) (head : Head) : Type 0 where
   pub value : head_of bytes ≡ Some head
   pub more : (more : List ℕ) → head_of (bytes ++ more) ≡ Some head
 
-abbrev pub Holds : List ℕ → Type 0
-Holds bytes = (head_of bytes ≡ None) ⊎ ((head : Head) × Stays bytes head)
+abbrev pub StaysAsRead : List ℕ → Type 0
+StaysAsRead bytes = (head_of bytes ≡ None) ⊎ ((head : Head) × Stays bytes head)
 
 searched : (l m : Lines) (bytes : List ℕ) (found : Found) → AreFirst m bytes → Finds l m bytes found
-    → (AreFirst m bytes → l.start < m.start → Holds bytes) → Holds bytes
+    → (AreFirst m bytes → l.start < m.start → StaysAsRead bytes) → StaysAsRead bytes
 searched l m bytes Line first finds on = on first finds
 searched l m bytes (Whole head) first finds on = inr (head, record { within = finds.0; value = finds.1; more = finds.2 })
 searched l m bytes Nothing first finds on = inl finds
 
-search : (fuel : ℕ) (l : Lines) (bytes : List ℕ) → AreFirst l bytes → length bytes < l.start + fuel → Holds bytes
+search : (fuel : ℕ) (l : Lines) (bytes : List ℕ) → AreFirst l bytes → length bytes < l.start + fuel → StaysAsRead bytes
 search zero l bytes first small = absurd (omega (arith, first.within, small))
 search (suc fuel) l bytes first small = elim (first_lf (drop l.start bytes)) [
   | inr none ↦ inl (none_taken l bytes first none)
@@ -96,7 +96,7 @@ same_beyond (Some head) =
     let fields : 0 + head.fields ≡ head.fields = omega arith in
     rw (size, fields) refl
 
-pub holds : (bytes : List ℕ) → Holds bytes
+pub holds : (bytes : List ℕ) → StaysAsRead bytes
 holds bytes = search (suc (length bytes)) (record { start = 0; begun = false; fields = 0; searched = 0 }) bytes
     (record {
       within = omega arith;
@@ -139,7 +139,7 @@ none_stays bytes more s e decided = elim (nat_lt (length bytes) 16384) as (λ t.
   | false ↦ λ short. (grind (arith, nat_tests, short), rw short at e)
 ] refl
 
-stays_by : (bytes more : List ℕ) (s : Stage) → Holds (take 16384 bytes) → Says bytes s → (s ≡ Ok None → ⊥) → Says (bytes ++ more) s
+stays_by : (bytes more : List ℕ) (s : Stage) → StaysAsRead (take 16384 bytes) → Says bytes s → (s ≡ Ok None → ⊥) → Says (bytes ++ more) s
 stays_by bytes more s (inl none) says decided =
     let long = none_stays bytes more s (rw none at says) decided in
     let front : take 16384 (bytes ++ more) ≡ take 16384 bytes = take-append-le 16384 bytes more long.0 in

@@ -27,8 +27,8 @@ use Rattle.console_session.specs.ConsoleTurn.{ConsoleTurn, asked_of, chosen, don
 use Rattle.console_session.specs.Hindrance.{Hindrance, Clear, Refused, Unheard, Unanswered, Unsealed, Untold, Unwritten, UnwrittenUnheard, Unread, UnreadRefused, UnreadUnheard, Misread, acted_under, found_under, gone_back_under, hindered, read_under, rewound_under, routed_under, sealed_under, told_under, tried_under, upgraded_under, where_read}
 
 -- what follows is not that more bytes are waited for
-abbrev Ends : ConsoleTurn → Type 0
-Ends t = t.after ≡ Waits → ⊥
+abbrev WaitsNoMore : ConsoleTurn → Type 0
+WaitsNoMore t = t.after ≡ Waits → ⊥
 
 closing : Closes ≡ Waits → ⊥
 closing e = cc e
@@ -45,7 +45,7 @@ rewinding e = cc e
 upgrading : Upgrades ≡ Waits → ⊥
 upgrading e = cc e
 
-told_ends : (h : Hindrance) (kept : Kept) (t : ConsoleTurn) → Ends t → Ends (told_under h kept t)
+told_ends : (h : Hindrance) (kept : Kept) (t : ConsoleTurn) → WaitsNoMore t → WaitsNoMore (told_under h kept t)
 told_ends Clear kept t ends = ends
 told_ends Refused kept t ends = closing
 told_ends Unheard kept t ends = closing
@@ -59,7 +59,7 @@ told_ends UnreadRefused kept t ends = ends
 told_ends UnreadUnheard kept t ends = ends
 told_ends (Misread said left) kept t ends = ends
 
-read_ends : (h : Hindrance) (kept : Kept) (t : ConsoleTurn) → Ends t → Ends (read_under h kept t)
+read_ends : (h : Hindrance) (kept : Kept) (t : ConsoleTurn) → WaitsNoMore t → WaitsNoMore (read_under h kept t)
 read_ends Clear kept t ends = ends
 read_ends Refused kept t ends = closing
 read_ends Unheard kept t ends = closing
@@ -73,7 +73,7 @@ read_ends UnreadRefused kept t ends = closing
 read_ends UnreadUnheard kept t ends = closing
 read_ends (Misread said left) kept t ends = ends
 
-sealed_ends : (h : Hindrance) (kept : Kept) (t u : ConsoleTurn) → Ends t → Ends u → Ends (sealed_under h kept t u)
+sealed_ends : (h : Hindrance) (kept : Kept) (t u : ConsoleTurn) → WaitsNoMore t → WaitsNoMore u → WaitsNoMore (sealed_under h kept t u)
 sealed_ends Clear kept t u done_ends failed_ends = done_ends
 sealed_ends Refused kept t u done_ends failed_ends = closing
 sealed_ends Unheard kept t u done_ends failed_ends = closing
@@ -87,7 +87,7 @@ sealed_ends UnreadRefused kept t u done_ends failed_ends = done_ends
 sealed_ends UnreadUnheard kept t u done_ends failed_ends = done_ends
 sealed_ends (Misread said left) kept t u done_ends failed_ends = done_ends
 
-rewound_ends : (h : Hindrance) (kept : Kept) (t u : ConsoleTurn) → Ends t → Ends u → Ends (rewound_under h kept t u)
+rewound_ends : (h : Hindrance) (kept : Kept) (t u : ConsoleTurn) → WaitsNoMore t → WaitsNoMore u → WaitsNoMore (rewound_under h kept t u)
 rewound_ends Clear kept t u done_ends failed_ends = done_ends
 rewound_ends Refused kept t u done_ends failed_ends = closing
 rewound_ends Unheard kept t u done_ends failed_ends = closing
@@ -101,37 +101,37 @@ rewound_ends UnreadRefused kept t u done_ends failed_ends = closing
 rewound_ends UnreadUnheard kept t u done_ends failed_ends = closing
 rewound_ends (Misread said left) kept t u done_ends failed_ends = done_ends
 
-found_ends : {A : Type 0} (some : Bool) (h : Hindrance) (kept : Kept) (o : Option A) (t : ConsoleTurn) → Ends t → Ends (found_under some h kept o t)
+found_ends : {A : Type 0} (some : Bool) (h : Hindrance) (kept : Kept) (o : Option A) (t : ConsoleTurn) → WaitsNoMore t → WaitsNoMore (found_under some h kept o t)
 found_ends some h kept None t ends = told_ends h kept t ends
 found_ends some h kept (Some x) t ends = read_ends (where_read some h) kept t ends
 
-act_ends : (h : Hindrance) (at : ℕ) (kept : Kept) (act : Act) → Ends (acted_under h at kept act)
+act_ends : (h : Hindrance) (at : ℕ) (kept : Kept) (act : Act) → WaitsNoMore (acted_under h at kept act)
 act_ends h at kept act = by_left (nat_lt kept.next 4194304)
   where
-    by_left : (left : Bool) → Ends (if left then sealed_under h kept (done at kept act) (failed kept (Operator kept.next at act)) else told_under h kept (numberless kept))
+    by_left : (left : Bool) → WaitsNoMore (if left then sealed_under h kept (done at kept act) (failed kept (Operator kept.next at act)) else told_under h kept (numberless kept))
     by_left true = sealed_ends h kept (done at kept act) (failed kept (Operator kept.next at act)) closing failing
     by_left false = told_ends h kept (numberless kept) closing
 
-back_ends : (some : Bool) (h : Hindrance) (kept : Kept) (missing : Answer) (what : JournalRecord) (left : Cycled → Kept) (due : Due) → Ends (gone_back_under some h kept missing what left due)
+back_ends : (some : Bool) (h : Hindrance) (kept : Kept) (missing : Answer) (what : JournalRecord) (left : Cycled → Kept) (due : Due) → WaitsNoMore (gone_back_under some h kept missing what left due)
 back_ends some h kept missing what left (Repeats report) = told_ends h kept _ closing
 back_ends some h kept missing what left NoPoint = told_ends h kept _ closing
 back_ends some h kept missing what left NoNumbers = told_ends h kept _ closing
 back_ends some h kept missing what left (Rewinds due) = rewound_ends (where_read some h) kept _ _ rewinding failing
 
-try_ends : (some : Bool) (h : Hindrance) (kept : Kept) (ask : CycleAsk) (due : Due) → Ends (tried_under some h kept ask due)
+try_ends : (some : Bool) (h : Hindrance) (kept : Kept) (ask : CycleAsk) (due : Due) → WaitsNoMore (tried_under some h kept ask due)
 try_ends some h kept ask (Repeats report) = told_ends h kept _ closing
 try_ends some h kept ask NoPoint = told_ends h kept _ closing
 try_ends some h kept ask NoNumbers = told_ends h kept _ closing
 try_ends some h kept ask (Rewinds due) = read_ends (where_read some h) kept _ closing
 
-upgrade_ends : (h : Hindrance) (at : ℕ) (kept : Kept) → Ends (upgraded_under h at kept)
+upgrade_ends : (h : Hindrance) (at : ℕ) (kept : Kept) → WaitsNoMore (upgraded_under h at kept)
 upgrade_ends h at kept = by_deep kept.deep
   where
-    by_deep : (deep : Bool) → Ends (if deep then told_under h kept (tells (answer 200 upgraded_data) Closes kept) else sealed_under h kept (upgrade_done at kept) (failed kept (Upgrade at)))
+    by_deep : (deep : Bool) → WaitsNoMore (if deep then told_under h kept (tells (answer 200 upgraded_data) Closes kept) else sealed_under h kept (upgrade_done at kept) (failed kept (Upgrade at)))
     by_deep true = told_ends h kept _ closing
     by_deep false = sealed_ends h kept _ _ upgrading failing
 
-route_ends : (h : Hindrance) (at : ℕ) (kept : Kept) (r : Route) → Ends (routed_under h at kept r)
+route_ends : (h : Hindrance) (at : ℕ) (kept : Kept) (r : Route) → WaitsNoMore (routed_under h at kept r)
 route_ends h at kept route.Status = told_ends h kept _ closing
 route_ends h at kept (route.Timeline start) = told_ends h kept _ closing
 route_ends h at kept (route.Box user name) = told_ends h kept _ closing
@@ -151,7 +151,7 @@ pub waits_for_more : (house : House) (h : Hindrance) (at : ℕ) (kept : Kept) (s
 waits_for_more house h at kept (Ok None) waits = refl
 waits_for_more house h at kept (Ok (Some request)) waits = absurd (by_choice (route_of house request) waits)
   where
-    by_choice : (c : Choice) → Ends (hindered h at kept (chosen c))
+    by_choice : (c : Choice) → WaitsNoMore (hindered h at kept (chosen c))
     by_choice (Ok r) = route_ends h at kept r
     by_choice (Err why) = told_ends h kept _ closing
 waits_for_more house h at kept (Err why) waits = absurd (told_ends h kept _ closing waits)

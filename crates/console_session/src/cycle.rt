@@ -1,4 +1,6 @@
 //! Cycles: sealed, put in place and then answered; or only tried.
+//!
+//! A trial performs what the cycle would, and is refused as the cycle would be, but for its key, which it does not look at.
 ghost use Rattle.std.specs.Prelude.{◌≡◌, ◌≤◌, ◌<◌, IfOk, OnOk, IfErr, IsTrue, None, Ok, false};
 ghost use Rattle.store_kept.specs.Kept.{report_of};
 ghost use Rattle.repair_desk.specs.Repairs.{are_known};
@@ -88,26 +90,6 @@ fn rewind_over<D: Disk, R: Threads + Sync, G: Gate, L: Ledger>(
     desk.cycle(rt, alloc, at, ask, gate, &mut steps)
 }
 
-/// Asks the desk for a cycle, and counts nothing.
-fn rewind_desk<D: Disk, R: Threads + Sync, G: Gate>(
-    rt: &R,
-    alloc: Global,
-    desk: &mut Desk<D>,
-    at: u64,
-    ask: CycleAsk,
-    gate: &G,
-) -> Result<Report, CycleFault>
-    requires moment { at ≤ LAST_MOMENT }
-    requires known { IsTrue (are_known desk.old.kept.house ask.inserts) }
-    ensures done { IfOk result (λ report. Cycles D.told at ask desk.old desk.new report) }
-    ensures why { IfErr result (λ fault. CyclesNone D.told at ask desk.old desk.new fault) }
-    ensures same { OnOk result (ReadsWell D.told desk.old desk.new) }
-    ensures finds_memory { OnOk result (FindsMemory (D.told desk.old.disk) (D.told desk.new.disk)) }
-    ensures wants { IfErr result (λ fault. CycleWants D.told desk.old.disk desk.new.disk fault) }
-{
-    rewind_over::<D, R, G, Brand>(rt, alloc, desk, at, ask, gate, Blank::new(1))
-}
-
 /// A cycle under a new key.
 fn rewind<D: Disk, R: Threads + Sync, G: Gate>(
     rt: &R,
@@ -124,7 +106,7 @@ fn rewind<D: Disk, R: Threads + Sync, G: Gate>(
     ensures { AnswersRequest D.told at (Ok (Whole (route.Cycle ask))) desk.old desk.new result }
 {
     seals_join::<D>();
-    match rewind_desk(rt, alloc, desk, at, ask, gate) {
+    match rewind_over::<D, R, G, Brand>(rt, alloc, desk, at, ask, gate, Blank::new(1)) {
         Ok(report) => tell_only(
             alloc,
             200,

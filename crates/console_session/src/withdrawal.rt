@@ -64,26 +64,6 @@ fn withdraw_over<D: Disk, R: Threads + Sync, G: Gate, L: Ledger>(
     desk.withdraw(rt, alloc, at, key, of, gate, &mut steps)
 }
 
-/// Asks the desk for a withdrawal, and counts nothing.
-fn withdraw_desk<D: Disk, R: Threads + Sync, G: Gate>(
-    rt: &R,
-    alloc: Global,
-    desk: &mut Desk<D>,
-    at: u64,
-    key: &Name,
-    of: u32,
-    gate: &G,
-) -> Result<Report, WithdrawFault>
-    requires { at ≤ LAST_MOMENT }
-    ensures done { IfOk result (λ report. Withdraws D.told at key.now of desk.old desk.new report) }
-    ensures why { IfErr result (λ fault. WithdrawsNone D.told at key.now of desk.old desk.new fault) }
-    ensures same { OnOk result (ReadsWell D.told desk.old desk.new) }
-    ensures finds_memory { OnOk result (FindsMemory (D.told desk.old.disk) (D.told desk.new.disk)) }
-    ensures wants { IfErr result (λ fault. WithdrawalWants D.told desk.old.disk desk.new.disk fault) }
-{
-    withdraw_over::<D, R, G, Brand>(rt, alloc, desk, at, key, of, gate, Blank::new(1))
-}
-
 /// A withdrawal under a new key.
 fn withdraw_anew<D: Disk, R: Threads + Sync, G: Gate>(
     rt: &R,
@@ -100,7 +80,7 @@ fn withdraw_anew<D: Disk, R: Threads + Sync, G: Gate>(
     ensures { AnswersRequest D.told at (Ok (Whole (route.Withdraw key.now of))) desk.old desk.new result }
 {
     seals_join::<D>();
-    match withdraw_desk(rt, alloc, desk, at, key, of, gate) {
+    match withdraw_over::<D, R, G, Brand>(rt, alloc, desk, at, key, of, gate, Blank::new(1)) {
         Ok(report) => tell_only(
             alloc,
             200,

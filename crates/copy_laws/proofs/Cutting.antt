@@ -10,7 +10,7 @@ use Rattle.seal_log.specs.Journal.{frame, sealed, BeginsClosed, IsPayload, Stand
 use Rattle.seal_log.specs.Loading.{BeginsCut, IsDamagedAt}
 use Rattle.copy_laws.specs.Copies.{IsCut, IsCutShort, IsOfAMoment, IsOfOne, Look}
 use Rattle.copy_laws.proofs.Sealed.{all-append, all_first, all_last, behind_front, sealed-append, sealed_split}
-use Rattle.copy_laws.proofs.Reading.{Begins}
+use Rattle.copy_laws.proofs.Reading.{FrontOfPayloads}
 
 -- ---- one closed gate
 
@@ -132,7 +132,7 @@ module _ (first : List (List ℕ)) (bytes : List ℕ) where
     short = all-append first more short stands.short;
   }
 
-pub cut_short : (first : List (List ℕ)) (looks : List Look) (bytes : List ℕ) → length (sealed first) < length bytes → Begins looks 0 first bytes → IsOfAMoment looks first bytes ⊎ IsCutShort looks first bytes
+pub cut_short : (first : List (List ℕ)) (looks : List Look) (bytes : List ℕ) → length (sealed first) < length bytes → FrontOfPayloads looks 0 first bytes → IsOfAMoment looks first bytes ⊎ IsCutShort looks first bytes
 cut_short first looks bytes long it =
     let split = sealed_split first it.more (bytes ++ it.others) it.stands in
     let behind = behind_front bytes it.others (sealed first) (sealed it.more ++ it.stands.rest) split (omega (arith, long)) in

@@ -30,7 +30,7 @@ grows_all agree first look looks stands journals forward = (
 )
 
 -- The bytes, with others behind them, stand for these payloads and maybe more, which one of the views has; there are no others where the end was found.
-pub record Begins (looks : List Look) (from : ℕ) (first : List (List ℕ)) (bytes : List ℕ) : Type 0 where
+pub record FrontOfPayloads (looks : List Look) (from : ℕ) (first : List (List ℕ)) (bytes : List ℕ) : Type 0 where
   pub more : List (List ℕ)
   pub others : List ℕ
   pub stands : StandsFor (bytes ++ others) (first ++ more)
@@ -84,8 +84,8 @@ module _ (payloads : List (List ℕ)) (from : ℕ) (done : List ℕ) (look : Loo
 -- more reads behind one
 on : (first more : List (List ℕ)) (from : ℕ) (done : List ℕ) (look next : Look) (looks : List Look) → StandsFor look.view (first ++ more) → done ++ got from look ≡ take (from + look.most) look.view
     → (done ++ got from look ≡ take (from + length (got from look)) (sealed (first ++ more)) → from + length (got from look) ≤ length (sealed (first ++ more))
-    → Begins (next ∷ looks) (from + length (got from look)) (first ++ more) ((done ++ got from look) ++ read_from (from + length (got from look)) (next ∷ looks)))
-    → Begins (look ∷ next ∷ looks) from first (done ++ read_from from (look ∷ next ∷ looks))
+    → FrontOfPayloads (next ∷ looks) (from + length (got from look)) (first ++ more) ((done ++ got from look) ++ read_from (from + length (got from look)) (next ∷ looks)))
+    → FrontOfPayloads (look ∷ next ∷ looks) from first (done ++ read_from from (look ∷ next ∷ looks))
 on first more from done look next looks stands so_far rest = elim (cases_lt (length (sealed (first ++ more))) (from + look.most)) [
   | inl far ↦
       let others = read_from (from + length (got from look)) (next ∷ looks) in
@@ -111,7 +111,7 @@ on first more from done look next looks stands so_far rest = elim (cases_lt (len
 ]
 
 pub begins : (first : List (List ℕ)) (from : ℕ) (done : List ℕ) (look : Look) (looks : List Look) → done ≡ take from (sealed first) → from ≤ length (sealed first) → GrowsFrom first (look ∷ looks)
-    → Begins (look ∷ looks) from first (done ++ read_from from (look ∷ looks))
+    → FrontOfPayloads (look ∷ looks) from first (done ++ read_from from (look ∷ looks))
 begins first from done look [] is within (more, stands, rest) =
     let so_far = read_so_far first more from done look is within stands in
     record {
@@ -126,7 +126,7 @@ begins first from done look (next ∷ looks) is within (more, stands, grows) =
     (λ same short. begins (first ++ more) (from + length (got from look)) (done ++ got from look) next looks same short grows)
 
 -- a copy, whole or not
-pub copy_begins : (first : List (List ℕ)) (look : Look) (looks : List Look) → GrowsFrom first (look ∷ looks) → Begins (look ∷ looks) 0 first (copy_of (look ∷ looks))
+pub copy_begins : (first : List (List ℕ)) (look : Look) (looks : List Look) → GrowsFrom first (look ∷ looks) → FrontOfPayloads (look ∷ looks) 0 first (copy_of (look ∷ looks))
 copy_begins first look looks grows = begins first 0 [] look looks refl (omega arith) grows
 
 pub copy_whole : (first : List (List ℕ)) (look : Look) (looks : List Look) → GrowsFrom first (look ∷ looks) → ComesToEnd 0 (look ∷ looks) → IsOfAMoment (look ∷ looks) first (copy_of (look ∷ looks))

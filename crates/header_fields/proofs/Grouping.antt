@@ -15,7 +15,7 @@ first_of [] = []
 first_of (line ∷ lines) = line
 
 -- what is known of the lines of bytes that begin with this one
-pub record Begins (b : ℕ) (s : List ℕ) : Type 0 where
+pub record FirstLine (b : ℕ) (s : List ℕ) : Type 0 where
   pub line : List ℕ
   pub others : List (List ℕ)
   pub is : lines_of (b ∷ s) ≡ (b ∷ line) ∷ others
@@ -26,7 +26,7 @@ not_both true true z e = ap (λ t. t && z) e
 not_both true false z e = refl
 not_both false y z e = refl
 
-begins_case : (b c : ℕ) (s : List ℕ) → Begins c s → (t : Bool) → is_end b c ≡ t → Begins b (c ∷ s)
+begins_case : (b c : ℕ) (s : List ℕ) → FirstLine c s → (t : Bool) → is_end b c ≡ t → FirstLine b (c ∷ s)
 begins_case b c s m true e = record { line = c ∷ []; others = lines_of s; is = rw e refl; empty = ap (λ x. (b == 13) && x) (and-true (c == 10)) }
 begins_case b c s m false e = record {
   line = c ∷ m.line;
@@ -35,7 +35,7 @@ begins_case b c s m false e = record {
   empty = not_both (b == 13) (c == 10) (bytes_eq m.line []) e ∙ sym e;
 }
 
-pub begins : (b : ℕ) (s : List ℕ) → Begins b s
+pub begins : (b : ℕ) (s : List ℕ) → FirstLine b s
 begins b [] = record { line = []; others = []; is = refl; empty = and-false (b == 13) }
 begins b (c ∷ s) = begins_case b c s (begins c s) (is_end b c) refl
 
@@ -49,7 +49,7 @@ folded_apart [] e = refl
 folded_apart (b ∷ []) e = refl
 folded_apart (b ∷ c ∷ s) e = blank_apart b (c == 10) e
 
-goes_case : (b : ℕ) (s : List ℕ) (m : Begins b s) (t : Bool) → begins_empty (b ∷ s) ≡ t → goes_on (header_lines (lines_of (b ∷ s))) ≡ is_blank b
+goes_case : (b : ℕ) (s : List ℕ) (m : FirstLine b s) (t : Bool) → begins_empty (b ∷ s) ≡ t → goes_on (header_lines (lines_of (b ∷ s))) ≡ is_blank b
 goes_case b s m true e = rw (m.is, m.empty, e) (not_blank (is_blank b) refl)
   where
     not_blank : (t : Bool) → is_blank b ≡ t → false ≡ is_blank b
@@ -123,7 +123,7 @@ not_begun false u some e = absurd (let wrong : false ≡ true = some in cc)
 begins_none : (b : ℕ) (s : List ℕ) → begins_field (b ∷ s) ≡ false → begins_empty (b ∷ s) ≡ true
 begins_none b s e = not_begun (nat_lt 0 (length (b ∷ s))) (begins_empty (b ∷ s)) (lt-ltb 0 (length (b ∷ s)) (omega arith)) e
 
-none_case : (b : ℕ) (s : List ℕ) → Begins b s → begins_empty (b ∷ s) ≡ true → fields_of (b ∷ s) ≡ []
+none_case : (b : ℕ) (s : List ℕ) → FirstLine b s → begins_empty (b ∷ s) ≡ true → fields_of (b ∷ s) ≡ []
 none_case b s m e = rw (m.is, m.empty, e) refl
 
 -- at the end, or at the empty line
@@ -131,7 +131,7 @@ pub no_fields : (s : List ℕ) → begins_field s ≡ false → fields_of s ≡ 
 no_fields [] e = refl
 no_fields (b ∷ s) e = none_case b s (begins b s) (begins_none b s e)
 
-end_case : (b : ℕ) (s : List ℕ) → Begins b s → begins_empty (b ∷ s) ≡ true → empty_line_of (b ∷ s) ≡ 13 ∷ 10 ∷ []
+end_case : (b : ℕ) (s : List ℕ) → FirstLine b s → begins_empty (b ∷ s) ≡ true → empty_line_of (b ∷ s) ≡ 13 ∷ 10 ∷ []
 end_case b s m e = rw (m.is, m.empty, e) refl
 
 two_bytes : (b c : ℕ) (s : List ℕ) → is_end b c ≡ true → b ∷ c ∷ take 0 s ≡ 13 ∷ 10 ∷ []

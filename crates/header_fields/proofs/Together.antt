@@ -4,11 +4,11 @@ use Rattle.std.proofs.lemmas.List.{append_assoc, take-append-drop, length-take}
 use Rattle.header_fields.specs.Lines.{is_end, onto_first, lines_of, joined}
 use Rattle.header_fields.specs.Fields.{goes_on, onto_field, fields_in, header_lines, fields_of}
 use Rattle.header_fields.specs.Header.{empty_line_of, header_of}
-use Rattle.header_fields.proofs.Grouping.{Begins, begins}
+use Rattle.header_fields.proofs.Grouping.{FirstLine, begins}
 
 -- ---- lines
 
-first_joined : (b c : ℕ) (s : List ℕ) → Begins c s → joined (onto_first b (lines_of (c ∷ s))) ≡ b ∷ joined (lines_of (c ∷ s))
+first_joined : (b c : ℕ) (s : List ℕ) → FirstLine c s → joined (onto_first b (lines_of (c ∷ s))) ≡ b ∷ joined (lines_of (c ∷ s))
 first_joined b c s m = rw m.is refl
 
 -- the lines of a text have its bytes

@@ -44,8 +44,8 @@ pub record IsSent {S : Type 0} (contents : S → Option (List ℕ)) (bytes : Lis
   pub whole : IsWhole contents bytes old new
 
 -- the connection of the seat, if there is one, is ended
-abbrev pub Ends : {S : Type 0} → Seat S → Seat S → Type 0
-Ends before after = IfSome before.connection (λ _. IsSomeAnd after.connection (λ new. IsSome new.ends_at))
+abbrev pub EndsConnection : {S : Type 0} → Seat S → Seat S → Type 0
+EndsConnection before after = IfSome before.connection (λ _. IsSomeAnd after.connection (λ new. IsSome new.ends_at))
 
 -- the seat behind this one, by turns
 abbrev pub seat_behind : ℕ → ℕ

@@ -1,8 +1,13 @@
 //! The connections of this machine as a link, which tells its counts alone.
+//!
+//! What no clause covers, and tests/system alone shows, is that a listener listens at the port that it was made for. So are the
+//! modes of a new stream, the moments of events, and the lines on standard error. Also that what waits is sent on, and what is
+//! waited for read, at each visit; of which sockets the system tells, and which it is asked of. Which seats are called and
+//! visited when is none either, beyond the order of a round; nor that something is told where something came.
 ghost use Rattle.std.specs.Prelude.{◌≡◌, ◌≢◌, ◌<◌, ◌≤◌, ◌+◌, ℕ, false, true, None, Some, Ok, IfSome, is_err, length, OnOk, OnErr};
 ghost use Rattle.undo_outside.specs.Calls.{Closes, Rose};
 ghost use Rattle.host_outside.specs.LoopLink.{told_by};
-ghost use Rattle.host_outside.specs.Seats.{Ends, IsSent, Turns};
+ghost use Rattle.host_outside.specs.Seats.{EndsConnection, IsSent, Turns};
 ghost use Rattle.host_outside.specs.Seats as spec;
 
 use crate::sockets::Sockets;
@@ -138,7 +143,7 @@ impl<R: Net + Clock + Eprint> Link for LoopLink<R> {
     fn close(&mut self, conn: u32) -> Result<(), NoMemory>
         ensures call { Closes (told_by self.old) (told_by self.new) conn result }
         ensures ends { IfSome (spec.place_of conn) (λ place. place < length self.old.sockets.seats.items
-            → Turns place Ends self.old.sockets.seats.items self.new.sockets.seats.items) }
+            → Turns place EndsConnection self.old.sockets.seats.items self.new.sockets.seats.items) }
     {
         if conn == OWN {
             self.sockets.tell_begin(self.made, self.items);

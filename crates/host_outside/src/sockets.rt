@@ -1,10 +1,17 @@
 //! The listeners and the connections, visited in rounds: where the system tells of something, and the others by turns.
+//!
+//! Between rounds the link waits for the system to tell of a port or a connection (epoll, by the kit's crate `mio`,
+//! edge-triggered; no handle beyond `Net`). It does not wait at all where somebody is still called, and never beyond the idle
+//! event, which comes after a second with nothing to tell (a clause of `pause`). Each port is registered as it listens, each
+//! connection as it is taken in.
+//!
+//! The number of a connection is that of its seat, counted from 1.
 ghost use Rattle.std.specs.Prelude.{◌≡◌, ◌<◌, ◌≤◌, ◌+◌, ℕ, true, false, IfOk, IfSome, IfNone, IsNone, None, Some, Ok, length, min, take, position};
 ghost use Rattle.std.specs.Option.{option_map, option_and_then};
 ghost use Rattle.host_outside.specs.Ports.{AskedFor, Row, row_at};
 ghost use Rattle.host_outside.specs.Ports as seats;
 ghost use Rattle.host_outside.specs.Queue.{longest_wait};
-ghost use Rattle.host_outside.specs.Seats.{Ends, Fills, Gives, Hears, IsLeft, IsSent, Receives, SatBefore, Turns, is_free, told_of};
+ghost use Rattle.host_outside.specs.Seats.{EndsConnection, Fills, Gives, Hears, IsLeft, IsSent, Receives, SatBefore, Turns, is_free, told_of};
 ghost use Rattle.host_outside.specs.declared.connection.Received.TheVariants as came;
 ghost use Rattle.host_outside.specs.Seats as spec;
 ghost use Rattle.undo_outside.specs.declared.event.What.TheVariants.{Joined};
@@ -132,7 +139,7 @@ impl<S: Read + Write + OpenStream + Drop> Seat<S> {
 
     /// Ends its connection, if there is one.
     fn end(&mut self, now: u64)
-        ensures { Ends self.old self.new }
+        ensures { EndsConnection self.old self.new }
     {
         if let Some(connection) = &mut self.connection {
             connection.end(now / 1000);
@@ -663,7 +670,7 @@ impl<R: Net + Clock + Eprint> Sockets<R> {
 
     /// Ends a connection, if there is one of this number. A console's has its answer and its end before the next event.
     pub(crate) fn close(&mut self, conn: u32)
-        ensures { IfSome (spec.place_of conn) (λ place. place < length self.old.seats.items → Turns place Ends self.old.seats.items self.new.seats.items) }
+        ensures { IfSome (spec.place_of conn) (λ place. place < length self.old.seats.items → Turns place EndsConnection self.old.seats.items self.new.seats.items) }
     {
         let now = self.millis();
         let Some(place) = place_of(conn) else {

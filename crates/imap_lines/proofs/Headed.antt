@@ -9,7 +9,7 @@ use Rattle.imap_stream.specs.LiteralMarks.{is_tag, tag_of, before_space}
 use Rattle.imap_tokens.specs.Parts.{is_space, from_space}
 use Rattle.imap_tokens.specs.Words.{upper, is_word, row_of}
 use Rattle.imap_lines.specs.Command.{uid_heading_of, heading_of}
-use Rattle.imap_lines.specs.Grammar.{name_of, has_uid_form, IsApart, Begins, Heads, HasTag}
+use Rattle.imap_lines.specs.Grammar.{name_of, has_uid_form, IsApart, HasWord, Heads, HasTag}
 use Rattle.imap_lines.specs.Verbs.{bare_verbs, mailbox_verbs, other_verbs, message_verbs, bare_verb, mailbox_verb, other_verb, message_verb, verb_in}
 use Rattle.imap_lines.specs.declared.verbs.BareVerb.{BareVerb}
 use Rattle.imap_lines.specs.declared.verbs.BareVerb.TheVariants as bare
@@ -223,7 +223,7 @@ verb_sound word v e = by_bare (bare_verb word) refl e
     by_bare (Some x) is e =
         subst (λ y. is_word (name_of y) word ≡ true) (same_Some (verb.Bare x) v e) (row_sound (λ y. verb.Bare y) bare_verbs word x (refl, (refl, (refl, (refl, (refl, (refl, tt)))))) is)
 
-begins_at : (v : Verb) (line : List ℕ) → is_word (name_of v) (before_first is_space line) ≡ true → Begins (name_of v) (from_space line) line
+begins_at : (v : Verb) (line : List ℕ) → is_word (name_of v) (before_first is_space line) ≡ true → HasWord (name_of v) (from_space line) line
 begins_at v line is = record {
   spelled = before_first is_space line;
   in_any_case = is;
@@ -267,7 +267,7 @@ record Opened (v : Verb) (rest line : List ℕ) : Type 0 where
   from_is : from_space line ≡ rest
   is : is_word (name_of v) word ≡ true
 
-opened : (v : Verb) (rest line : List ℕ) → Begins (name_of v) rest line → Opened v rest line
+opened : (v : Verb) (rest line : List ℕ) → HasWord (name_of v) rest line → Opened v rest line
 opened v rest line b =
     let plain = word_spaceless (name_of v) b.spelled (named v).plain b.in_any_case in
     record {

@@ -260,7 +260,7 @@ IsApart [] = Unit {0}
 IsApart (b ∷ rest) = b ≡ 32
 
 -- a word in any case, and what follows it
-pub record Begins (name rest line : List ℕ) : Type 0 where
+pub record HasWord (name rest line : List ℕ) : Type 0 where
   pub spelled : List ℕ
   pub in_any_case : is_word name spelled ≡ true
   pub whole : line ≡ spelled ++ rest
@@ -273,10 +273,10 @@ pub record BeginsUid (v : Verb) (rest line : List ℕ) : Type 0 where
   pub in_any_case : is_word (codes "UID") spelled ≡ true
   pub whole : line ≡ spelled ++ 32 ∷ behind
   pub has_form : has_uid_form v ≡ true
-  pub begins : Begins (name_of v) rest behind
+  pub begins : HasWord (name_of v) rest behind
 
 abbrev pub Heads : Verb → Bool → List ℕ → List ℕ → Type 0
-Heads v false rest line = Begins (name_of v) rest line
+Heads v false rest line = HasWord (name_of v) rest line
 Heads v true rest line = BeginsUid v rest line
 
 -- tag SP, and what follows

@@ -1,4 +1,15 @@
 //! Commands as they stand in a stream.
+//!
+//! What RFC 3501, section 9, makes case-insensitive ignores case: words of commands, flags (`\seen`), months, attributes,
+//! sections and STATUS items. Names of fields are kept as spelled, and repeated attributes too.
+//!
+//! Spaces at the end of a command's last line don't count, so a line `a ` has no tag. Spaces before a literal mark do count.
+//!
+//! The word ends at the first space. What comes without a space behind it belongs to the word: `NOOP` and a NUL is an unknown
+//! word, `NOOP`, a space and a NUL has bad arguments. A word that a literal follows directly, with no space, is the word, and has
+//! bad arguments.
+//!
+//! Want of memory is answered only for a command that has a tag.
 ghost use Rattle.std.specs.Prelude.{◌≡◌, true, option_map, IfOk, Ok, Err};
 ghost use Rattle.undo_base.specs.Name.{is_name};
 ghost use Rattle.imap_lines.specs.Command.{ReadsCommand, command_of, heading_of, uid_heading_of, spoken};
@@ -91,10 +102,8 @@ fn read_named(
     requires { is_name tag.now ≡ true }
     ensures { ReadsCommand (spec.tagged tag.now line.now lines.now literals.now) result }
 {
-    match Name::of(alloc, tag) {
-        Ok(tag) => read_tagged(alloc, tag, line, lines, literals),
-        Err(_) => Err(ImapRefused::NoMemory),
-    }
+    let tag = Name::of(alloc, tag)?;
+    read_tagged(alloc, tag, line, lines, literals)
 }
 
 /// The command of a first line, of the lines that follow and of the literals.

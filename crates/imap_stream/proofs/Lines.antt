@@ -68,7 +68,7 @@ last_byte-drop (b ∷ c ∷ s) some =
     rw size (last_byte-drop (c ∷ s) (omega arith))
 
 -- a line and its CRLF
-pub record Ends (s line rest : List ℕ) : Type 0 where
+pub record LineAndEnd (s line rest : List ℕ) : Type 0 where
   pub whole : s ≡ line ++ 13 ∷ 10 ∷ rest
   pub open_line : end_of (line ++ 13 ∷ []) ≡ None
 
@@ -79,7 +79,7 @@ some_parts true o n e Z first more = first refl (let f : Some 0 ≡ Some n = e i
 some_parts false None n e Z first more = absurd (let f : None ≡ Some n = e in cc)
 some_parts false (Some m) n e Z first more = more m refl refl (let f : Some (m + 1) ≡ Some n = e in cc)
 
-one_before : (b c : ℕ) (s line rest : List ℕ) → is_end b c ≡ false → Ends (c ∷ s) line rest → Ends (b ∷ c ∷ s) (b ∷ line) rest
+one_before : (b c : ℕ) (s line rest : List ℕ) → is_end b c ≡ false → LineAndEnd (c ∷ s) line rest → LineAndEnd (b ∷ c ∷ s) (b ∷ line) rest
 one_before b c s [] rest apart ends =
     let same : c ∷ s ≡ 13 ∷ 10 ∷ rest = ends.whole in
     let first : c ≡ 13 = cc in
@@ -93,7 +93,7 @@ one_before b c s (d ∷ line) rest apart ends =
 
 -- what stands before the first CRLF, and behind it
 pub record EndsHere (s : List ℕ) (n : ℕ) : Type 0 where
-  pub parts : Ends s (take n s) (drop (n + 2) s)
+  pub parts : LineAndEnd s (take n s) (drop (n + 2) s)
   pub size : length (take n s) ≡ n
 
 ends_first : (b c : ℕ) (s : List ℕ) (n : ℕ) → is_end b c ≡ true → n ≡ 0 → EndsHere (b ∷ c ∷ s) n
@@ -109,7 +109,7 @@ ends_later b c s n m apart e more =
     let two : suc m + 2 ≡ suc (m + 2) = omega arith in
     let front = one_before b c s (take m (c ∷ s)) (drop (m + 2) (c ∷ s)) apart more.parts in
     subst (EndsHere (b ∷ c ∷ s)) (sym one) (record {
-      parts = subst (λ k. Ends (b ∷ c ∷ s) (b ∷ take m (c ∷ s)) (drop k (b ∷ c ∷ s))) (sym two) front;
+      parts = subst (λ k. LineAndEnd (b ∷ c ∷ s) (b ∷ take m (c ∷ s)) (drop k (b ∷ c ∷ s))) (sym two) front;
       size = ap suc more.size;
     })
 

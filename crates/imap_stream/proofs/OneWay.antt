@@ -7,7 +7,7 @@ use Rattle.std.proofs.lemmas.List.{append_assoc, append-nil, length-append, take
 use Rattle.std.proofs.lemmas.List.Sums.{sum_by_push, sum_by-cons}
 use Rattle.imap_stream.specs.LiteralMarks.{mark_of, mark_at}
 use Rattle.imap_stream.specs.Commands.{end_of}
-use Rattle.imap_stream.specs.Streams.{Part, Entry, Open, Line as OpenLine, Octets, Rest, marked_line, ended_line, part_bytes, entry_bytes, open_bytes, rest_bytes, octets_of, IsLine, Announces, IsPart, AreParts, Ends, IsEntry, IsOpen, IsRest, Splits}
+use Rattle.imap_stream.specs.Streams.{Part, Entry, Open, Line as OpenLine, Octets, Rest, marked_line, ended_line, part_bytes, entry_bytes, open_bytes, rest_bytes, octets_of, IsLine, Announces, IsPart, AreParts, EndsCommand, IsEntry, IsOpen, IsRest, Splits}
 use Rattle.imap_stream.specs.declared.marks.Mark.{Mark}
 use Rattle.imap_stream.specs.declared.next.LineFault.{LineFault}
 use Rattle.imap_stream.specs.declared.next.LineFault.TheVariants.{Long, Literal as TooLarge, Many}
@@ -78,7 +78,7 @@ leb-false a b lt = by_test (nat_le a b) refl
     by_test true is = absurd (let le = leb-true a b is in omega arith)
     by_test false is = refl
 
-way_over : (done : List Part) (line s : List ℕ) (fault : Option LineFault) → IsLine line → Ends done line fault → way_of done line s ≡ Over fault
+way_over : (done : List Part) (line s : List ℕ) (fault : Option LineFault) → IsLine line → EndsCommand done line fault → way_of done line s ≡ Over fault
 way_over done line s None one_line e = rw (ltb-false 65536 (octets_of done + length line) e.0, no_mark line one_line e.1) refl
 way_over done line s (Some Long) one_line e = rw (ltb-true 65536 (octets_of done + length line) e) refl
 way_over done line s (Some (TooLarge n)) one_line e = rw (ltb-false 65536 (octets_of done + length line) e.0, mark_is line n e.1, ltb-true 1048576 n e.2) refl

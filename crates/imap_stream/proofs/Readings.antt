@@ -2,7 +2,7 @@
 use Rattle.std.proofs.Common.{◌≡◌, ℕ, ◌+◌, ◌-◌, ◌<◌, ◌≤◌, Bool, true, false, cond, List, [], ◌∷◌, ◌++◌, length, take, drop, nat_lt, nat_le, Option, None, Some, refl, ap, sym, ◌∙◌, arith, zero, suc, subst}
 use Rattle.std.proofs.lemmas.List.{append_assoc, length-append, length-take, length-drop, take_at, drop-drop}
 use Rattle.imap_stream.specs.Commands.{Heard, end_of, last_byte, heard, saying, before, nothing, closed, says_next, bad, asked, ended, marked_or_finished, with_literal, tag_of_command, first_line, awaited, awaits_after, TakesNext}
-use Rattle.imap_stream.specs.Reading.{IsBegun, IsClear, IsSound, IsWithin, IsOpen, EndsAt, Waits, GivesUp, Settles, seen}
+use Rattle.imap_stream.specs.Reading.{IsBegun, IsClear, IsSoundReader, IsWithin, IsOpen, EndsAt, Waits, GivesUp, Settles, seen}
 use Rattle.imap_stream.specs.declared.begun.Begun.{Begun}
 use Rattle.imap_stream.specs.declared.begun.Awaits.{Awaits}
 use Rattle.imap_stream.specs.declared.begun.Awaits.TheVariants.{Line, Literal, End}
@@ -98,7 +98,7 @@ nothing_is : IsBegun nothing
 nothing_is = record { most = omega arith; first = λ _. refl }
 
 -- a line is given up
-pub gives_up_sound : (old new : Reader) (bytes : List ℕ) (start : ℕ) → GivesUp old bytes start new → IsSound new bytes
+pub gives_up_sound : (old new : Reader) (bytes : List ℕ) (start : ℕ) → GivesUp old bytes start new → IsSoundReader new bytes
 gives_up_sound old new bytes start g = record {
   given = g.within;
   begun = subst IsBegun (sym g.begun) nothing_is;
@@ -156,7 +156,7 @@ none_short old bytes start w is_open short =
 
 -- a line that was searched to its end
 pub scanned_sound : (old : Reader) (bytes : List ℕ) (start n : ℕ) → Waits old bytes start → n ≡ length bytes - start - 1
-    → IsSound (record { begun = old.begun; awaits = old.awaits; given = old.given; scanned = n }) bytes
+    → IsSoundReader (record { begun = old.begun; awaits = old.awaits; given = old.given; scanned = n }) bytes
 scanned_sound old bytes start n w e =
     let o = open_at old bytes start w in
     let size = o.size in
@@ -171,8 +171,8 @@ scanned_sound old bytes start n w e =
     }
 
 -- a line that is too long
-pub skipped_sound : (old : Reader) (bytes : List ℕ) (given : ℕ) (tag : Option (List ℕ)) → IsSound old bytes → old.awaits ≡ End tag → given ≤ length bytes
-    → IsSound (record { begun = old.begun; awaits = End tag; given = given; scanned = 0 }) bytes
+pub skipped_sound : (old : Reader) (bytes : List ℕ) (given : ℕ) (tag : Option (List ℕ)) → IsSoundReader old bytes → old.awaits ≡ End tag → given ≤ length bytes
+    → IsSoundReader (record { begun = old.begun; awaits = End tag; given = given; scanned = 0 }) bytes
 skipped_sound old bytes given tag sound is within = record {
   given = within;
   begun = sound.begun;
@@ -236,7 +236,7 @@ end_takes begun now awaits bytes given place next is end e after =
     ∙ ap (λ a. saying (next ∷ []) (heard (before now a) (drop (place + 2) u))) (sym after) ∙ ap (λ l. saying (next ∷ []) (heard (before now awaits) l)) far)
 
 pub end_sound : (begun now : Begun) (awaits : Awaits) (bytes line : List ℕ) (given place : ℕ) (next : Next) → IsWithin Line begun → EndsAt given bytes place
-    → ended begun line ≡ says_next next now → awaits ≡ awaits_after next → IsSound (record { begun = now; awaits = awaits; given = given + place + 2; scanned = 0 }) bytes
+    → ended begun line ≡ says_next next now → awaits ≡ awaits_after next → IsSoundReader (record { begun = now; awaits = awaits; given = given + place + 2; scanned = 0 }) bytes
 end_sound begun now awaits bytes line given place next within end e after =
     let new = ended_within begun line next now within e in
     record {
@@ -289,8 +289,8 @@ settles_same old new bytes start place n literal e end s = by_line (drop start b
         subst (λ k. heard (before old.begun (Literal k)) (take n u ++ b ∷ l) ≡ heard (before (with_literal old.begun (take n u)) Line) (b ∷ l)) size (literal_taken old.begun (take n u) b l) in
         new_is ∙ ap (heard (before (with_literal old.begun (take n u)) Line)) some ∙ sym taken ∙ ap (heard (before old.begun (Literal n))) whole ∙ ap (λ a. heard (before old.begun a) u) (sym literal)
 
-pub settles_sound : (old new : Reader) (bytes : List ℕ) (start place n : ℕ) → IsSound old bytes → old.awaits ≡ Literal n → start ≡ old.given + n → EndsAt start bytes place
-    → Settles old bytes start new → IsSound new bytes
+pub settles_sound : (old new : Reader) (bytes : List ℕ) (start place n : ℕ) → IsSoundReader old bytes → old.awaits ≡ Literal n → start ≡ old.given + n → EndsAt start bytes place
+    → Settles old bytes start new → IsSoundReader new bytes
 settles_sound old new bytes start place n sound literal e end s = record {
   given = (let inside = end.within in let g = s.given in omega arith);
   begun = subst IsBegun (sym s.begun) (record { most = sound.begun.most; first = sound.begun.first });
@@ -316,7 +316,7 @@ settles_sound old new bytes start place n sound literal e end s = record {
 pub fed_same : (r : Reader) (bytes more : List ℕ) → r.given ≤ length bytes → seen r (bytes ++ more) ≡ heard (seen r bytes) more
 fed_same r bytes more within = ap (heard (before r.begun r.awaits)) (drop_front r.given bytes more within) ∙ heard-append (before r.begun r.awaits) (drop r.given bytes) more
 
-pub fed_sound : (r : Reader) (bytes more : List ℕ) → IsSound r bytes → IsSound r (bytes ++ more)
+pub fed_sound : (r : Reader) (bytes more : List ℕ) → IsSoundReader r bytes → IsSoundReader r (bytes ++ more)
 fed_sound r bytes more sound = record {
   given = (let g = sound.given in simp length-append (omega arith));
   begun = sound.begun;

@@ -5,7 +5,7 @@ use Rattle.std.proofs.lemmas.List.{length-append, length-take, length-drop, drop
 use Rattle.std.proofs.lemmas.List.Sums.{sum_by_push}
 use Rattle.imap_stream.specs.Commands.{end_of, last_byte, heard, before, with_literal, tag_of_command, awaited}
 use Rattle.imap_stream.specs.Holding.{octets_in, tag_kept, tag_octets, held_in}
-use Rattle.imap_stream.specs.Reading.{IsBegun, IsWithin, IsSound, IsOpen, IsSettled, EndsAt, Waits, GivesUp, seen}
+use Rattle.imap_stream.specs.Reading.{IsBegun, IsWithin, IsSoundReader, IsOpen, IsSettled, EndsAt, Waits, GivesUp, seen}
 use Rattle.imap_stream.specs.declared.begun.Begun.{Begun}
 use Rattle.imap_stream.specs.declared.begun.Awaits.{Awaits}
 use Rattle.imap_stream.specs.declared.begun.Awaits.TheVariants.{Line, Literal, End}
@@ -76,7 +76,7 @@ settled_open r bytes start w is_open short =
     }
 
 -- a literal that has not come whole
-pub settled_literal : (r : Reader) (bytes : List ℕ) → IsSound r bytes → length (drop r.given bytes) < awaited r.awaits → IsSettled r bytes
+pub settled_literal : (r : Reader) (bytes : List ℕ) → IsSoundReader r bytes → length (drop r.given bytes) < awaited r.awaits → IsSettled r bytes
 settled_literal r bytes sound short = by_awaits r.awaits refl
   where
     held : List ℕ
@@ -122,7 +122,7 @@ settled_given_up old new bytes start g =
     settled_end new bytes (tag_of_command old.begun (drop start bytes)) sound.begun sound.limits g.awaits (subst (λ l. length l ≤ 1) (sym g.rest) (last_few (drop start bytes)))
 
 -- where nothing is said, no CRLF ends the line that comes next
-none_ends : (r : Reader) (bytes : List ℕ) (start : ℕ) → IsSound r bytes → start ≡ r.given + awaited r.awaits → start ≤ length bytes → (seen r bytes).said ≡ [] → end_of (drop start bytes) ≡ None
+none_ends : (r : Reader) (bytes : List ℕ) (start : ℕ) → IsSoundReader r bytes → start ≡ r.given + awaited r.awaits → start ≤ length bytes → (seen r bytes).said ≡ [] → end_of (drop start bytes) ≡ None
 none_ends r bytes start sound begins within none = by_end (end_of (drop start bytes)) refl
   where
     by_end : (o : Option ℕ) → end_of (drop start bytes) ≡ o → end_of (drop start bytes) ≡ None
@@ -136,7 +136,7 @@ none_ends r bytes start sound begins within none = by_end (end_of (drop start by
         absurd (end_said r bytes start place sound begins ends_at none)
 
 -- where nothing is said of a stream, how much is kept of it: of a line that is too long the tag and one byte
-pub held_long : (r : Reader) (bytes : List ℕ) → IsSound r bytes → IsOpen r.awaits → (seen r bytes).said ≡ [] → 65537 < r.begun.octets + length (drop (awaited r.awaits) (drop r.given bytes))
+pub held_long : (r : Reader) (bytes : List ℕ) → IsSoundReader r bytes → IsOpen r.awaits → (seen r bytes).said ≡ [] → 65537 < r.begun.octets + length (drop (awaited r.awaits) (drop r.given bytes))
     → tag_octets (tag_of_command r.begun (drop (awaited r.awaits) (drop r.given bytes))) + 1 ≡ held_in (seen r bytes)
 held_long r bytes sound is_open none long =
     let held = drop r.given bytes in
@@ -159,7 +159,7 @@ held_long r bytes sound is_open none long =
     last_one (b ∷ c ∷ l) some = last_one (c ∷ l) (omega arith)
 
 -- and of another all
-pub held_short : (r : Reader) (bytes : List ℕ) → IsSound r bytes → IsOpen r.awaits → (seen r bytes).said ≡ [] → r.begun.octets + length (drop (awaited r.awaits) (drop r.given bytes)) ≤ 65537 → IsSettled r bytes
+pub held_short : (r : Reader) (bytes : List ℕ) → IsSoundReader r bytes → IsOpen r.awaits → (seen r bytes).said ≡ [] → r.begun.octets + length (drop (awaited r.awaits) (drop r.given bytes)) ≤ 65537 → IsSettled r bytes
 held_short r bytes sound is_open none short = by_size (nat_lt (length held) (awaited r.awaits)) refl
   where
     held : List ℕ
@@ -177,7 +177,7 @@ held_short r bytes sound is_open none short = by_size (nat_lt (length held) (awa
         settled_open r bytes (r.given + awaited r.awaits) waits is_open (omega arith)
 
 -- and where the end of such a line is awaited, one byte at most
-pub held_end : (r : Reader) (bytes : List ℕ) (tag : Option (List ℕ)) → IsSound r bytes → r.awaits ≡ End tag → (seen r bytes).said ≡ []
+pub held_end : (r : Reader) (bytes : List ℕ) (tag : Option (List ℕ)) → IsSoundReader r bytes → r.awaits ≡ End tag → (seen r bytes).said ≡ []
     → octets_in r.begun.lines + octets_in r.begun.literals + tag_octets tag + min (length (drop r.given bytes)) 1 ≡ held_in (seen r bytes)
 held_end r bytes tag sound is none =
     let held = drop r.given bytes in
@@ -196,7 +196,7 @@ no_tag Line is_open = refl
 no_tag (Literal n) is_open = refl
 no_tag (End tag) is_open = absurd is_open
 
-pub held_open : (r : Reader) (bytes came : List ℕ) (n : ℕ) → IsSound r bytes → IsOpen r.awaits → came ≡ drop r.given bytes
+pub held_open : (r : Reader) (bytes came : List ℕ) (n : ℕ) → IsSoundReader r bytes → IsOpen r.awaits → came ≡ drop r.given bytes
     → (65537 < r.begun.octets + length (drop (awaited r.awaits) came) → n ≡ tag_octets (tag_of_command r.begun (drop (awaited r.awaits) came)) + 1)
     → (r.begun.octets + length (drop (awaited r.awaits) came) ≤ 65537 → n ≡ min (octets_in r.begun.lines + octets_in r.begun.literals + length came) 18446744073709551615)
     → (seen r bytes).said ≡ [] → n ≡ held_in (seen r bytes)
@@ -225,7 +225,7 @@ held_open r bytes came n sound is_open is long short none =
         let kept_is : n ≡ octets_in r.begun.lines + octets_in r.begun.literals + tag_octets (tag_kept r.awaits) + length held = omega arith in
         kept_is ∙ same
 
-pub held_ended : (r : Reader) (bytes came : List ℕ) (n : ℕ) (tag : Option (List ℕ)) → IsSound r bytes → r.awaits ≡ End tag → came ≡ drop r.given bytes
+pub held_ended : (r : Reader) (bytes came : List ℕ) (n : ℕ) (tag : Option (List ℕ)) → IsSoundReader r bytes → r.awaits ≡ End tag → came ≡ drop r.given bytes
     → n ≡ min (octets_in r.begun.lines + octets_in r.begun.literals + tag_octets (tag_kept r.awaits) + min (length came) 1) 18446744073709551615
     → (seen r bytes).said ≡ [] → n ≡ held_in (seen r bytes)
 held_ended r bytes came n tag sound is same all none =

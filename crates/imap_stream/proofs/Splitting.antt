@@ -7,7 +7,7 @@ use Rattle.std.proofs.lemmas.List.{append_assoc, append-nil, length-append, leng
 use Rattle.std.proofs.lemmas.List.Sums.{sum_by_push}
 use Rattle.imap_stream.specs.LiteralMarks.{mark_of, mark_at}
 use Rattle.imap_stream.specs.Commands.{end_of, said_of}
-use Rattle.imap_stream.specs.Streams.{Part, Entry, Line as OpenLine, Octets, Rest, marked_line, ended_line, part_bytes, entry_bytes, rest_bytes, octets_of, IsLine, Announces, HasMark, IsPart, AreParts, Ends, Splits, IsReading}
+use Rattle.imap_stream.specs.Streams.{Part, Entry, Line as OpenLine, Octets, Rest, marked_line, ended_line, part_bytes, entry_bytes, rest_bytes, octets_of, IsLine, Announces, HasMark, IsPart, AreParts, EndsCommand, Splits, IsReading}
 use Rattle.imap_stream.specs.declared.marks.Mark.{Mark}
 use Rattle.imap_stream.specs.declared.next.LineFault.{LineFault}
 use Rattle.imap_stream.specs.declared.next.LineFault.TheVariants.{Long, Literal as TooLarge, Many}
@@ -47,7 +47,7 @@ split_open done s are one_line = record {
 }
 
 -- a line that ends an entry
-split_end : (done : List Part) (line s : List ℕ) (fault : Option LineFault) → AreParts done → IsLine line → Ends done line fault → Split s
+split_end : (done : List Part) (line s : List ℕ) (fault : Option LineFault) → AreParts done → IsLine line → EndsCommand done line fault → Split s
     → Split (flat_map part_bytes done ++ (line ++ 13 ∷ 10 ∷ s))
 split_end done line s fault are one_line over r =
     let e : Entry = record { parts = done; last = line; fault = fault } in

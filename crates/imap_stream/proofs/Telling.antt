@@ -8,7 +8,7 @@ use Rattle.std.proofs.lemmas.List.Sums.{sum_by_push, sum_by-cons}
 use Rattle.imap_stream.specs.LiteralMarks.{tag_of, mark_of, mark_at}
 use Rattle.imap_stream.specs.Commands.{end_of, first_line, nothing, says_next, closed, bad, ended, with_literal, saying, heard, before, said_of}
 use Rattle.imap_stream.specs.Reading.{IsBegun}
-use Rattle.imap_stream.specs.Streams.{Part, Entry, Open, Line as OpenLine, Octets, Rest, marked_line, ended_line, part_bytes, entry_bytes, open_bytes, rest_bytes, octets_of, IsLine, Announces, HasMark, IsPart, AreParts, Ends, IsEntry, IsOpen, IsRest, Splits, told_part, first_of, told_end, told_entry, told_open, told_of, IsReading}
+use Rattle.imap_stream.specs.Streams.{Part, Entry, Open, Line as OpenLine, Octets, Rest, marked_line, ended_line, part_bytes, entry_bytes, open_bytes, rest_bytes, octets_of, IsLine, Announces, HasMark, IsPart, AreParts, EndsCommand, IsEntry, IsOpen, IsRest, Splits, told_part, first_of, told_end, told_entry, told_open, told_of, IsReading}
 use Rattle.imap_stream.specs.declared.begun.Begun.{Begun}
 use Rattle.imap_stream.specs.declared.begun.Awaits.TheVariants.{Line, Literal}
 use Rattle.imap_stream.specs.declared.marks.Mark.{Mark}
@@ -137,7 +137,7 @@ pub mark_is : (line : List ℕ) (n : ℕ) (h : HasMark line n) → mark_of line 
 mark_is line n h = ap mark_of h.is ∙ mark_of-marked h.text h.digits h.announces.are_digits ∙ ap (λ k. Some (mark_at (length h.text) k)) h.announces.size
 
 -- a line ends a command, or is a bad line
-ended_closes : (parts : List Part) (line : List ℕ) (fault : Option LineFault) → IsLine line → Ends parts line fault
+ended_closes : (parts : List Part) (line : List ℕ) (fault : Option LineFault) → IsLine line → EndsCommand parts line fault
     → ended (begun_of parts) line ≡ says_next (told_end parts line fault) nothing
 ended_closes parts line None one_line e = rw (ltb-false 65536 (octets_of parts + length line) e.0, no_mark line one_line e.1) refl
 ended_closes parts line (Some Long) one_line e = rw (ltb-true 65536 (octets_of parts + length line) e) (bad_same parts line Long)
@@ -149,7 +149,7 @@ ended_closes parts line (Some Many) one_line (short, eight, (n, mark, small)) =
     rw (ltb-false 65536 (octets_of parts + length line) short, mark_is line n mark, ltb-false 1048576 n small, many) (bad_same parts line Many)
 
 -- the last line of an entry
-last_told : (parts : List Part) (line : List ℕ) (fault : Option LineFault) (s : List ℕ) → octets_of parts ≤ 65536 → IsLine line → Ends parts line fault
+last_told : (parts : List Part) (line : List ℕ) (fault : Option LineFault) (s : List ℕ) → octets_of parts ≤ 65536 → IsLine line → EndsCommand parts line fault
     → (heard (before (begun_of parts) Line) (ended_line line ++ s)).said ≡ told_end parts line fault ∷ (heard (before nothing Line) s).said
 last_told parts line fault s short one_line e =
     ap (λ h. h.said) (heard-append (before (begun_of parts) Line) (ended_line line) s

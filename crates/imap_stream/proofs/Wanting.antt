@@ -1,7 +1,7 @@
 -- Where memory may be wanted for what comes next, and what was searched where nothing has come.
 use Rattle.std.proofs.Common.{◌≡◌, ◌≢◌, ℕ, ◌+◌, ◌-◌, ◌<◌, Bool, true, false, cond, List, [], ◌∷◌, length, take, drop, nat_lt, nat_le, Option, None, Some, Result, Ok, Err, OnErr, refl, ap, sym, ◌∙◌, arith, subst, inr}
 use Rattle.imap_stream.specs.Commands.{Heard, last_byte, heard, saying, before, closed, says_next, bad, asked, ended, marked_or_finished, with_literal, tag_of_command, awaited, awaits_after, KeepsTag, WantsMemory}
-use Rattle.imap_stream.specs.Reading.{IsBegun, IsSound, IsOpen, EndsAt, Waits, GivesUp, Settles, seen}
+use Rattle.imap_stream.specs.Reading.{IsBegun, IsSoundReader, IsOpen, EndsAt, Waits, GivesUp, Settles, seen}
 use Rattle.imap_stream.specs.declared.begun.Begun.{Begun}
 use Rattle.imap_stream.specs.declared.begun.Awaits.{Awaits}
 use Rattle.imap_stream.specs.declared.begun.Awaits.TheVariants.{Line, Literal, End}
@@ -69,7 +69,7 @@ line_said begun bytes given place is end = by_one (says_one begun line)
         some_said (heard (before begun Line) u) (heard (before now (awaits_after next)) (drop (place + 2) u)) next
         (heard_line begun Line u place (says_next next now) here (line_closes begun line is here.parts.open_line ∙ e) ∙ heard_told next now (drop (place + 2) u))
 
-pub end_said : (r : Reader) (bytes : List ℕ) (start place : ℕ) → IsSound r bytes → start ≡ r.given + awaited r.awaits → EndsAt start bytes place → (seen r bytes).said ≢ []
+pub end_said : (r : Reader) (bytes : List ℕ) (start place : ℕ) → IsSoundReader r bytes → start ≡ r.given + awaited r.awaits → EndsAt start bytes place → (seen r bytes).said ≢ []
 end_said r bytes start place sound begins end = by_awaits r.awaits refl
   where
     by_awaits : (a : Awaits) → r.awaits ≡ a → (seen r bytes).said ≢ []

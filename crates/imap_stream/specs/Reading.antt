@@ -24,7 +24,7 @@ pub record IsWithin (awaits : Awaits) (begun : Begun) : Type 0 where
   pub next : awaited awaits ≤ 1048576
   pub tag : tag_octets (tag_kept awaits) ≤ 64
 
-pub record IsSound (reader : Reader) (bytes : List ℕ) : Type 0 where
+pub record IsSoundReader (reader : Reader) (bytes : List ℕ) : Type 0 where
   pub given : reader.given ≤ length bytes
   pub begun : IsBegun reader.begun
   pub limits : IsWithin reader.awaits reader.begun
@@ -41,7 +41,7 @@ IsSearched reader bytes = reader.scanned ≡ length (drop (awaited reader.awaits
 
 -- what is read and still held is no more than half of all
 pub record KeepsNoMore (reader : Reader) (bytes : List ℕ) : Type 0 where
-  pub sound : IsSound reader bytes
+  pub sound : IsSoundReader reader bytes
   pub half : reader.given + reader.given ≤ length bytes
 
 -- no line is given up
@@ -77,7 +77,7 @@ pub record EndsAt (start : ℕ) (bytes : List ℕ) (place : ℕ) : Type 0 where
 
 -- the line that begins at a place has not come whole
 pub record Waits (reader : Reader) (bytes : List ℕ) (start : ℕ) : Type 0 where
-  pub sound : IsSound reader bytes
+  pub sound : IsSoundReader reader bytes
   pub begins : start ≡ reader.given + awaited reader.awaits
   pub within : start ≤ length bytes
   pub open_line : end_of (drop start bytes) ≡ None

@@ -86,16 +86,16 @@ pub record AreParts (parts : List Part) : Type 0 where
   pub short : octets_of parts ≤ 65536
 
 -- A line ends a command, or it is a bad line: too many octets; else a literal too large; else a ninth literal.
-abbrev pub Ends : List Part → List ℕ → Option LineFault → Type 0
-Ends parts line None = (octets_of parts + length line ≤ 65536) × ((n : ℕ) → HasMark line n → ⊥)
-Ends parts line (Some Long) = 65536 < octets_of parts + length line
-Ends parts line (Some (TooLarge n)) = (octets_of parts + length line ≤ 65536) × HasMark line n × (1048576 < n)
-Ends parts line (Some Many) = (octets_of parts + length line ≤ 65536) × (length parts ≡ 8) × ((n : ℕ) × HasMark line n × (n ≤ 1048576))
+abbrev pub EndsCommand : List Part → List ℕ → Option LineFault → Type 0
+EndsCommand parts line None = (octets_of parts + length line ≤ 65536) × ((n : ℕ) → HasMark line n → ⊥)
+EndsCommand parts line (Some Long) = 65536 < octets_of parts + length line
+EndsCommand parts line (Some (TooLarge n)) = (octets_of parts + length line ≤ 65536) × HasMark line n × (1048576 < n)
+EndsCommand parts line (Some Many) = (octets_of parts + length line ≤ 65536) × (length parts ≡ 8) × ((n : ℕ) × HasMark line n × (n ≤ 1048576))
 
 pub record IsEntry (e : Entry) : Type 0 where
   pub parts : AreParts e.parts
   pub one_line : IsLine e.last
-  pub ends : Ends e.parts e.last e.fault
+  pub ends : EndsCommand e.parts e.last e.fault
 
 -- a line that has no CRLF yet, or one whose literal is begun
 abbrev pub IsOpen : List Part → Open → Type 0

@@ -2,7 +2,7 @@
 ghost use Rattle.std.specs.Prelude.{◌≡◌, ◌+◌, ◌≤◌, ◌++◌, [], true, false, Ok, length, drop, min, IfOk, OnOk, OnErr};
 ghost use Rattle.imap_stream.specs.Commands.{heard, before, nothing, TakesNext, WantsMemory};
 ghost use Rattle.imap_stream.specs.Holding.{held_in};
-ghost use Rattle.imap_stream.specs.Reading.{IsSound, KeepsNoMore, parts_of, seen};
+ghost use Rattle.imap_stream.specs.Reading.{IsSoundReader, KeepsNoMore, parts_of, seen};
 ghost use Rattle.imap_stream.specs.declared.begun.Awaits.TheVariants.{Line};
 
 use crate::Next;
@@ -134,7 +134,7 @@ fn push_bytes(bytes: &mut Vec<u8>, more: &[u8]) -> Result<(), NoMemory>
 
 /// Takes the bytes away that are read. Where nothing whole is there, the others came behind the last that was, and so each is moved once at most for it.
 fn drop_given(reader: &mut Reader, bytes: &mut Vec<u8>)
-    requires { IsSound reader.old bytes.old.items }
+    requires { IsSoundReader reader.old bytes.old.items }
     ensures keeps { KeepsNoMore reader.new bytes.new.items }
     ensures same { seen reader.new bytes.new.items ≡ seen reader.old bytes.old.items }
     ensures parts { parts_of reader.new ≡ parts_of reader.old }
@@ -147,7 +147,7 @@ fn drop_given(reader: &mut Reader, bytes: &mut Vec<u8>)
 
 /// Takes the bytes away that are read, where they are more than the others, so that each byte is moved once at most for one that was read.
 fn compact(reader: &mut Reader, bytes: &mut Vec<u8>)
-    requires { IsSound reader.old bytes.old.items }
+    requires { IsSoundReader reader.old bytes.old.items }
     ensures keeps { KeepsNoMore reader.new bytes.new.items }
     ensures same { seen reader.new bytes.new.items ≡ seen reader.old bytes.old.items }
     ensures fewer { length bytes.new.items ≤ length bytes.old.items }

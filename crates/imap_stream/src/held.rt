@@ -2,7 +2,7 @@
 ghost use Rattle.std.specs.Prelude.{◌≡◌, ◌+◌, ◌≤◌, ◌<◌, [], drop, length, min};
 ghost use Rattle.imap_stream.specs.Commands.{awaited, tag_of_command};
 ghost use Rattle.imap_stream.specs.Holding.{octets_in, tag_kept, tag_octets, held_in};
-ghost use Rattle.imap_stream.specs.Reading.{IsSound, IsOpen, IsWithin, kept, parts_of, seen};
+ghost use Rattle.imap_stream.specs.Reading.{IsSoundReader, IsOpen, IsWithin, kept, parts_of, seen};
 
 use crate::begun::{Awaits, Begun, MOST_OCTETS, octets_awaited, opening};
 use crate::marks::read_tag;
@@ -108,7 +108,7 @@ pub fn parts(reader: &Reader) -> usize
 
 /// How many bytes are kept where nothing is whole.
 pub fn held(reader: &Reader, bytes: &[u8]) -> usize
-    requires { IsSound reader.now bytes.now }
+    requires { IsSoundReader reader.now bytes.now }
     ensures { (seen reader.now bytes.now).said ≡ [] → result ≡ held_in (seen reader.now bytes.now) }
 {
     let came = behind(bytes, reader.given);

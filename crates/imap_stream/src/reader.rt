@@ -2,7 +2,7 @@
 ghost use Rattle.std.specs.Prelude.{◌≡◌, ◌≢◌, ◌+◌, ◌≤◌, [], length, take, drop, None, IfOk, IfSome, OnOk, OnErr};
 ghost use Rattle.imap_stream.specs.Commands.{is_end, end_of, last_byte, awaited, nothing, tag_of_command, TakesNext, WantsMemory};
 ghost use Rattle.imap_stream.specs.Holding.{tag_kept};
-ghost use Rattle.imap_stream.specs.Reading.{IsSound, IsOpen, IsSearched, IsSettled, EndsAt, Waits, GivesUp, Settles, seen};
+ghost use Rattle.imap_stream.specs.Reading.{IsSoundReader, IsOpen, IsSearched, IsSettled, EndsAt, Waits, GivesUp, Settles, seen};
 
 use crate::begun::{
     Awaits, Begun, MOST_OCTETS, awaits_after, command_tag, end_line, none_begun, octets_awaited,
@@ -101,7 +101,7 @@ fn wait_in_line(
 ) -> Result<(), NoMemory>
     requires waits { Waits reader.old bytes.now start }
     requires open { IsOpen reader.old.awaits }
-    ensures sound { IsSound reader.new bytes.now }
+    ensures sound { IsSoundReader reader.new bytes.now }
     ensures none { (seen reader.old bytes.now).said ≡ [] }
     ensures same { seen reader.new bytes.now ≡ seen reader.old bytes.now }
     ensures searched { OnOk result (IsSearched reader.new bytes.now) }
@@ -120,7 +120,7 @@ fn wait_in_line(
 /// Waits for the end of a line.
 fn wait(alloc: Global, reader: &mut Reader, bytes: &[u8], start: usize) -> Result<(), NoMemory>
     requires { Waits reader.old bytes.now start }
-    ensures sound { IsSound reader.new bytes.now }
+    ensures sound { IsSoundReader reader.new bytes.now }
     ensures none { (seen reader.old bytes.now).said ≡ [] }
     ensures same { seen reader.new bytes.now ≡ seen reader.old bytes.now }
     ensures searched { OnOk result (IsSearched reader.new bytes.now) }
@@ -153,10 +153,10 @@ fn settle(alloc: Global, reader: &mut Reader, bytes: &[u8], start: usize) -> Res
 
 /// Ends a line of a command.
 fn end(alloc: Global, reader: &mut Reader, bytes: &[u8], place: usize) -> Result<Next, NoMemory>
-    requires sound { IsSound reader.old bytes.now }
+    requires sound { IsSoundReader reader.old bytes.now }
     requires awaits { reader.old.awaits ≡ Awaits.Line }
     requires end { EndsAt reader.old.given bytes.now place }
-    ensures sound { IsSound reader.new bytes.now }
+    ensures sound { IsSoundReader reader.new bytes.now }
     ensures ok { IfOk result (λ next. TakesNext (seen reader.old bytes.now) next (seen reader.new bytes.now)) }
     ensures err { OnErr result (reader.new ≡ reader.old) }
 {
@@ -182,10 +182,10 @@ fn take_tag(awaits: &mut Awaits) -> Option<Name>
 
 /// Ends a line that is too long.
 fn end_long(alloc: Global, reader: &mut Reader, bytes: &[u8], place: usize) -> Next
-    requires sound { IsSound reader.old bytes.now }
+    requires sound { IsSoundReader reader.old bytes.now }
     requires awaits { reader.old.awaits ≡ Awaits.End (tag_kept reader.old.awaits) }
     requires end { EndsAt reader.old.given bytes.now place }
-    ensures sound { IsSound reader.new bytes.now }
+    ensures sound { IsSoundReader reader.new bytes.now }
     ensures ok { TakesNext (seen reader.old bytes.now) result (seen reader.new bytes.now) }
 {
     let tag = take_tag(&mut reader.awaits);
@@ -206,10 +206,10 @@ fn close(
     start: usize,
     place: usize,
 ) -> Result<Next, NoMemory>
-    requires sound { IsSound reader.old bytes.now }
+    requires sound { IsSoundReader reader.old bytes.now }
     requires start { start ≡ reader.old.given + awaited reader.old.awaits }
     requires end { EndsAt start bytes.now place }
-    ensures sound { IsSound reader.new bytes.now }
+    ensures sound { IsSoundReader reader.new bytes.now }
     ensures ok { IfOk result (λ next. TakesNext (seen reader.old bytes.now) next (seen reader.new bytes.now)) }
     ensures err { OnErr result (seen reader.new bytes.now ≡ seen reader.old bytes.now) }
     ensures said { (seen reader.old bytes.now).said ≢ [] }
@@ -226,8 +226,8 @@ fn close(
 
 /// What comes next.
 pub fn take_next(alloc: Global, reader: &mut Reader, bytes: &[u8]) -> Result<Next, NoMemory>
-    requires { IsSound reader.old bytes.now }
-    ensures sound { IsSound reader.new bytes.now }
+    requires { IsSoundReader reader.old bytes.now }
+    ensures sound { IsSoundReader reader.new bytes.now }
     ensures ok { IfOk result (λ next. TakesNext (seen reader.old bytes.now) next (seen reader.new bytes.now)) }
     ensures err { OnErr result (seen reader.new bytes.now ≡ seen reader.old bytes.now) }
     ensures wants { OnErr result (WantsMemory (seen reader.old bytes.now)) }

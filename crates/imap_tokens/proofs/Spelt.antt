@@ -83,16 +83,16 @@ wrote tokens (PartQuoted text) = flat_map spelled tokens ++ 34 ∷ flat_map quot
 wrote tokens (Escape text) = flat_map spelled tokens ++ 34 ∷ (flat_map quoted_byte text ++ 92 ∷ [])
 
 -- the tokens, and the part, can stand in a line
-abbrev pub IsSound : List Token → Part → Type 0
-IsSound tokens Between = (are_spellable tokens ≡ true) × (ends_word tokens ≡ false)
-IsSound tokens (PartWord text) = (are_spellable tokens ≡ true) × (ends_word tokens ≡ false) × (is_whole_word text ≡ true)
-IsSound tokens (PartQuoted text) = (are_spellable tokens ≡ true) × (list_all is_quoted_byte text ≡ true)
-IsSound tokens (Escape text) = (are_spellable tokens ≡ true) × (list_all is_quoted_byte text ≡ true)
+abbrev pub CanStandInLine : List Token → Part → Type 0
+CanStandInLine tokens Between = (are_spellable tokens ≡ true) × (ends_word tokens ≡ false)
+CanStandInLine tokens (PartWord text) = (are_spellable tokens ≡ true) × (ends_word tokens ≡ false) × (is_whole_word text ≡ true)
+CanStandInLine tokens (PartQuoted text) = (are_spellable tokens ≡ true) × (list_all is_quoted_byte text ≡ true)
+CanStandInLine tokens (Escape text) = (are_spellable tokens ≡ true) × (list_all is_quoted_byte text ≡ true)
 
 -- what a byte makes of them spells so much
 abbrev pub Steps : List ℕ → Option (List Token × Part) → Type 0
 Steps bytes None = Unit {0}
-Steps bytes (Some next) = IsSound next.0 next.1 × (wrote next.0 next.1 ≡ bytes)
+Steps bytes (Some next) = CanStandInLine next.0 next.1 × (wrote next.0 next.1 ≡ bytes)
 
 flat_push : (tokens : List Token) (token : Token) → flat_map spelled (tokens ++ token ∷ []) ≡ flat_map spelled tokens ++ spelled token
 flat_push [] token = append-nil (spelled token)
@@ -138,7 +138,7 @@ longer_word [] b whole is = absurd (let wrong : false ≡ true = whole in cc)
 longer_word (first ∷ text) b whole is = all_push is_word_byte (first ∷ text) b whole is
 
 -- a byte after bytes of a word
-goes_on : (tokens : List Token) (text : List ℕ) (b : ℕ) (word : Bool) → is_word_byte b ≡ word → IsSound tokens (PartWord text)
+goes_on : (tokens : List Token) (text : List ℕ) (b : ℕ) (word : Bool) → is_word_byte b ≡ word → CanStandInLine tokens (PartWord text)
     → Steps (flat_map spelled tokens ++ text ++ b ∷ []) (cond word (Some (tokens, PartWord (text ++ b ∷ []))) (started (tokens ++ Word text ∷ []) b))
 goes_on tokens text b true e sound = ((sound.0, sound.1, longer_word text b sound.2 e), sym (append_assoc (flat_map spelled tokens) text (b ∷ [])))
 goes_on tokens text b false e sound =
@@ -156,7 +156,7 @@ one_more tokens text bytes more e =
 
 -- a byte of a quoted string
 quoted_by : (tokens : List Token) (text : List ℕ) (b : ℕ) (quote slash plain : Bool) → (b == 34) ≡ quote → (b == 92) ≡ slash → is_quoted_byte b ≡ plain
-    → IsSound tokens (PartQuoted text)
+    → CanStandInLine tokens (PartQuoted text)
     → Steps (flat_map spelled tokens ++ 34 ∷ flat_map quoted_byte text ++ b ∷ [])
     (cond quote (Some (tokens ++ Quoted text ∷ [], Between)) (cond slash (Some (tokens, Escape text)) (cond plain (Some (tokens, PartQuoted (text ++ b ∷ []))) None)))
 quoted_by tokens text b true slash plain e1 e2 e3 sound = (
@@ -186,7 +186,7 @@ after_slash tokens text b e =
 
 -- a byte behind a \ in a quoted string
 escapes_by : (tokens : List Token) (text : List ℕ) (b : ℕ) (quote slash : Bool) → (b == 34) ≡ quote → (b == 92) ≡ slash
-    → IsSound tokens (Escape text)
+    → CanStandInLine tokens (Escape text)
     → Steps (flat_map spelled tokens ++ 34 ∷ (flat_map quoted_byte text ++ 92 ∷ []) ++ b ∷ [])
     (option_map (λ part. (tokens, part)) (cond (quote || slash) (Some (PartQuoted (text ++ b ∷ []))) None))
 escapes_by tokens text b true slash e1 e2 sound =
@@ -195,7 +195,7 @@ escapes_by tokens text b false true e1 e2 sound =
     ((sound.0, all_push is_quoted_byte text b sound.1 (slash_is_quoted b (eqb-true b 92 e2))), after_slash tokens text b (rw (e1, e2) refl))
 escapes_by tokens text b false false e1 e2 sound = tt
 
-steps : (tokens : List Token) (part : Part) (b : ℕ) → IsSound tokens part → Steps (wrote tokens part ++ b ∷ []) (with_byte tokens part b)
+steps : (tokens : List Token) (part : Part) (b : ℕ) → CanStandInLine tokens part → Steps (wrote tokens part ++ b ∷ []) (with_byte tokens part b)
 steps tokens Between b sound = starts tokens b sound.0 (λ _. sound.1)
 steps tokens (PartWord text) b sound = goes_on tokens text b (is_word_byte b) refl sound
 steps tokens (PartQuoted text) b sound = quoted_by tokens text b (b == 34) (b == 92) (is_quoted_byte b) refl refl refl sound
@@ -208,7 +208,7 @@ abbrev tokens_or_none : Option (List Token) → List Token
 tokens_or_none None = []
 tokens_or_none (Some tokens) = tokens
 
-ends : (tokens : List Token) (part : Part) (all : List Token) → IsSound tokens part → ended tokens part ≡ Some all → Spelt (wrote tokens part) all
+ends : (tokens : List Token) (part : Part) (all : List Token) → CanStandInLine tokens part → ended tokens part ≡ Some all → Spelt (wrote tokens part) all
 ends tokens Between all sound e = subst (Spelt (flat_map spelled tokens)) (ap tokens_or_none e) (sound.0, refl)
 ends tokens (PartWord text) all sound e =
     subst (Spelt (flat_map spelled tokens ++ text)) (ap tokens_or_none e)
@@ -217,13 +217,13 @@ ends tokens (PartQuoted text) all sound e = absurd (cc)
 ends tokens (Escape text) all sound e = absurd (cc)
 
 run_by : (bytes line : List ℕ) (o : Option (List Token × Part)) (all : List Token) → Steps bytes o → option_and_then (λ next. tokens_from next.0 next.1 line) o ≡ Some all
-    → ((tokens : List Token) (part : Part) → IsSound tokens part → tokens_from tokens part line ≡ Some all → Spelt (wrote tokens part ++ line) all)
+    → ((tokens : List Token) (part : Part) → CanStandInLine tokens part → tokens_from tokens part line ≡ Some all → Spelt (wrote tokens part ++ line) all)
     → Spelt (bytes ++ line) all
 run_by bytes line None all s e more = absurd (cc)
 run_by bytes line (Some next) all s e more = let r = more next.0 next.1 s.0 e in (r.0, r.1 ∙ ap (λ w. w ++ line) s.1)
 
 -- what is read of a line is spelled by it
-run : (line : List ℕ) (tokens : List Token) (part : Part) (all : List Token) → IsSound tokens part → tokens_from tokens part line ≡ Some all → Spelt (wrote tokens part ++ line) all
+run : (line : List ℕ) (tokens : List Token) (part : Part) (all : List Token) → CanStandInLine tokens part → tokens_from tokens part line ≡ Some all → Spelt (wrote tokens part ++ line) all
 run [] tokens part all sound e = let r = ends tokens part all sound e in (r.0, r.1 ∙ sym (append-nil (wrote tokens part)))
 run (b ∷ line) tokens part all sound e =
     let r = run_by (wrote tokens part ++ b ∷ []) line (with_byte tokens part b) all (steps tokens part b sound) e (λ t p s f. run line t p all s f) in

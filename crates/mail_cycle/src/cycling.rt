@@ -1,4 +1,8 @@
 //! A repair, put together.
+//!
+//! Each item of the new timeline behind the beginning is performed once on a store of the cycle's own, the notices last; the
+//! counter rises by their number. That beginning is the newest snapshot at or before the point, else the store before the first
+//! item. The store in use is not touched.
 ghost use Rattle.std.specs.Prelude.{◌≡◌, ◌+◌, ◌-◌, ◌≤◌, ◌++◌, drop, length, take, IfOk, OnErr, OnOk};
 ghost use Rattle.std.specs.List.{AllByRecursion};
 ghost use Rattle.verb_core.specs.Items.{IsWellFormed};
@@ -32,10 +36,8 @@ fn cut(items: StoredItems, count: usize) -> Result<(StoredItems, StoredItems), N
     ensures later { IfOk result (λ parts. parts.1 ≡ drop count items) }
 {
     let mut front = items.into_vec();
-    match front.split_off(count) {
-        Ok(later) => Ok((StoredItems::from_vec(front), StoredItems::from_vec(later))),
-        Err(_) => Err(NoMemory),
-    }
+    let later = front.split_off(count)?;
+    Ok((StoredItems::from_vec(front), StoredItems::from_vec(later)))
 }
 
 /// Items, and others behind them: none is copied.
@@ -44,10 +46,8 @@ fn put_behind(front: StoredItems, later: StoredItems) -> Result<StoredItems, NoM
 {
     let mut items = front.into_vec();
     let mut later = later.into_vec();
-    match items.append(&mut later) {
-        Ok(()) => Ok(StoredItems::from_vec(items)),
-        Err(_) => Err(NoMemory),
-    }
+    items.append(&mut later)?;
+    Ok(StoredItems::from_vec(items))
 }
 
 /// Replayed items, with others before them.

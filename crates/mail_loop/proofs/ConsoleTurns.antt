@@ -15,7 +15,7 @@ use Rattle.console_session.specs.ConsoleTurn.{asked_of}
 use Rattle.mail_loop.specs.declared.aftermath.Aftermath.TheVariants.{Quiet}
 use Rattle.mail_loop.specs.State.{Seats, State, Http}
 use Rattle.mail_loop.specs.Asked.{HaveSealed}
-use Rattle.mail_loop.specs.ConsoleTurn.{Reading, left_by, of_console, sequel_of}
+use Rattle.mail_loop.specs.ConsoleTurn.{ConsoleReading, left_by, of_console, sequel_of}
 use Rattle.mail_loop.specs.Hindrance.{Hindrance, Clear, Refused, Unread, UnreadRefused, UnreadUnheard, Misled, Unheard, Unanswered, Unsealed, Untold, Unwritten, UnwrittenUnheard}
 use Rattle.mail_loop.specs.Machine.{heard}
 use Rattle.mail_loop.specs.Took.{answered_alone, turned_as}
@@ -52,7 +52,7 @@ as_it_is console.UnreadUnheard = refl
 as_it_is (console.Misread said left) = refl
 
 -- the connection stays open where it waits, and is closed else
-by_after : (conn : ℕ) (said : List ℕ) (after : After) (kept : Kept) (seats : Seats) (failed : List JournalRecord) (counts : TurnCounts) (readings : List Reading) (all came : List ℕ)
+by_after : (conn : ℕ) (said : List ℕ) (after : After) (kept : Kept) (seats : Seats) (failed : List JournalRecord) (counts : TurnCounts) (readings : List ConsoleReading) (all came : List ℕ)
     → (after ≡ Waits → came ≡ all)
     → heard conn (record {
       said = said;
@@ -91,7 +91,7 @@ console_heard {D} told nothing at came came' bytes conn seats old new r (AreServ
     let turn = serves.turn_is in
     let t = console.hindered serves.hindrance at old.kept (asked_of old.kept.house stage) in
     let counts : TurnCounts = record { reads = t.reads; out_of_memory = t.out_of_memory } in
-    let reading : Reading = record { bytes = came ++ bytes; stage = stage } in
+    let reading : ConsoleReading = record { bytes = came ++ bytes; stage = stage } in
     let readings = reading ∷ [] in
     let s : State = record { kept = old.kept; seats = seats } in (
       false,

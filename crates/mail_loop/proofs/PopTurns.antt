@@ -19,7 +19,7 @@ use Rattle.pop_session.specs.declared.dialog.Awaits.TheVariants.{Nothing, Text, 
 use Rattle.pop_session.specs.declared.dialog.Dialog.{Dialog}
 use Rattle.pop_session.specs.declared.dialog.Pending.TheVariants as on
 use Rattle.pop_session.specs.declared.out.PopOut.{PopOut}
-use Rattle.pop_session.specs.declared.out.PopOut.TheVariants.{Say as Says, Read as Reads, Submit as Submits, Bye as Ends}
+use Rattle.pop_session.specs.declared.out.PopOut.TheVariants.{Say as Says, Read as Reads, Submit as Submits, Bye as Goodbye}
 use Rattle.pop_session.specs.Dialog as session
 use Rattle.store_kept.specs.Kept.{Kept, store_of}
 use Rattle.store_kept.specs.Texts.{all_bodies, has_text_kept}
@@ -50,28 +50,28 @@ free_at_last d is = ap session.is_free is
 
 pub next_of : (out : PopOut) (d : Dialog) → session.IsNext out d → IsNext pop_speech (of_pop out) d
 next_of (Says said) d is = is
-next_of (Ends said) d is = free_at_last d is
+next_of (Goodbye said) d is = free_at_last d is
 next_of (Reads body) d is = is
 next_of (Submits ask) d is = is
 
 -- who is logged in asks, or logs in
 pub asks_as_of : (out : PopOut) (d : Dialog) → session.AsksAsUser out d → AsksAs pop_speech (of_pop out) d
 asks_as_of (Says said) d is = tt
-asks_as_of (Ends said) d is = tt
+asks_as_of (Goodbye said) d is = tt
 asks_as_of (Reads body) d is = tt
 asks_as_of (Submits ask) d is = is.0 ∙ sym is.1
 
 -- the text that a line wants is that of an item in force
 pub there_of : (kept : Kept) (s : MailStore) (out : PopOut) → s ≡ store_of kept → session.ReadsOf s out → all_bodies (has_text_kept kept) (store_of kept).boxes ≡ true → AreThere kept (of_pop out)
 there_of kept s (Says said) same reads there = tt
-there_of kept s (Ends said) same reads there = tt
+there_of kept s (Goodbye said) same reads there = tt
 there_of kept s (Reads body) same reads there =
     ap (λ (b : Bool). b && true) (reads (has_text_kept kept) (ap (λ (t : MailStore). all_bodies (has_text_kept kept) t.boxes) same ∙ there))
 there_of kept s (Submits ask) same reads there = tt
 
 pub reading_of : (out : PopOut) (d : Dialog) → is_read out ≡ true → session.IsNext out d → session.is_reading d ≡ true
 reading_of (Says said) d wrong is = absurd (true≢false (sym wrong))
-reading_of (Ends said) d wrong is = absurd (true≢false (sym wrong))
+reading_of (Goodbye said) d wrong is = absurd (true≢false (sym wrong))
 reading_of (Reads body) d read is = is
 reading_of (Submits ask) d wrong is = absurd (true≢false (sym wrong))
 
@@ -80,7 +80,7 @@ pub textless_line : (S : List JournalRecord → TurnCounts → Type 0) (at : ℕ
     → S [] none_counted → ReadsOutOfMemory pop_speech kept d old e new
     → (h : Hindrance) × Takes S (under h at kept (λ desk. followed pop_speech desk kept (of_pop out) d)) old kept e new
 textless_line S at kept (Says said) d e old new wrong is seals out_of_memory = absurd (true≢false (sym wrong))
-textless_line S at kept (Ends said) d e old new wrong is seals out_of_memory = absurd (true≢false (sym wrong))
+textless_line S at kept (Goodbye said) d e old new wrong is seals out_of_memory = absurd (true≢false (sym wrong))
 textless_line S at kept (Reads body) d e old new read is seals out_of_memory = textless_turn pop_speech S at kept (body ∷ []) d e old new is seals out_of_memory
 textless_line S at kept (Submits ask) d e old new wrong is seals out_of_memory = absurd (true≢false (sym wrong))
 
@@ -127,7 +127,7 @@ none_read_after d e outcome out due is = sym (ap (λ (t : session.Took). is_read
 -- which call is due behind an outcome
 pub awaited_last : (out : PopOut) (d : Dialog) → is_read out ≡ false → session.IsNext out d → IsAwaitedLast pop_speech (of_pop out) d
 awaited_last (Says said) d none is = is
-awaited_last (Ends said) d none is = free_at_last d is
+awaited_last (Goodbye said) d none is = free_at_last d is
 awaited_last (Reads body) d wrong is = absurd (true≢false wrong)
 awaited_last (Submits ask) d none is = is
 

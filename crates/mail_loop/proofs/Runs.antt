@@ -7,7 +7,7 @@ use Rattle.undo_outside.specs.declared.event.Event.{Event}
 use Rattle.undo_outside.specs.declared.event.LinkNote.{LinkNote}
 use Rattle.undo_outside.specs.declared.event.LinkNote.TheVariants.{Came}
 use Rattle.undo_outside.specs.declared.fault.Fault.TheVariants.{Failed, NoMemory as NoneForNext}
-use Rattle.undo_outside.specs.Calls.{LinkTold, Rose, then_told, IsNext, Comes}
+use Rattle.undo_outside.specs.Calls.{LinkTold, Rose, then_told, IsNextEvent, Comes}
 use Rattle.mail_loop.specs.declared.serve.ServeFault.{ServeFault}
 use Rattle.mail_loop.specs.declared.serve.ServeFault.TheVariants.{Link, Disk, Turns, NoMemory}
 use Rattle.verb_bytes.specs.declared.journal.JournalRecord.{JournalRecord}
@@ -15,7 +15,7 @@ use Rattle.desk_journal.specs.Reading.{Counted, RoseAtLeast}
 use Rattle.mail_loop.specs.TurnCounts.{TurnCounts, both_counted, none_counted}
 use Rattle.store_kept.specs.Kept.{Kept}
 use Rattle.mail_loop.specs.State.{State, Seats}
-use Rattle.mail_loop.specs.ConsoleTurn.{AreSaid, Reading, both, no_consoles}
+use Rattle.mail_loop.specs.ConsoleTurn.{AreSaid, ConsoleReading, both, no_consoles}
 use Rattle.mail_loop.specs.Machine.{Hindrances, Keeping, IsPassed, Outcome, happens, is_end}
 use Rattle.mail_loop.specs.Did.{AreLicensed, Goes, Leads, StopsAtClose, WantsIn, left_out_of, missed_of}
 use Rattle.mail_loop.specs.Serving.{Step, after_notes, run, at_first, NoEnd, missed_in, ComeInOrder, counts_in, events_of, readings_in, stopped_in, unsealed_in, left_out_in, CountsFaults, IsCutAtClose, IsLeftOutOfMemory, IsLeftUnsealed, Serves, Served, ServedOver, ended_as}
@@ -71,10 +71,10 @@ run_more (first ∷ steps) s step =
     })
 
 order_more : (coming mid new : Option (List Event)) (events : List Event) (event : Event)
-    → ComeInOrder coming events mid → IsNext mid event new → ComeInOrder coming (events ++ event ∷ []) new
+    → ComeInOrder coming events mid → IsNextEvent mid event new → ComeInOrder coming (events ++ event ∷ []) new
 order_more None mid new [] event is next = tt
 order_more (Some []) mid new [] event is next = tt
-order_more (Some (x ∷ rest)) mid new [] event is next = subst (λ c. IsNext c event new) is next
+order_more (Some (x ∷ rest)) mid new [] event is next = subst (λ c. IsNextEvent c event new) is next
 order_more None mid new (f ∷ events) event is next = tt
 order_more (Some []) mid new (f ∷ events) event is next = tt
 order_more (Some (x ∷ rest)) mid new (f ∷ events) event is next = (is.0, order_more (Some rest) mid new events event is.1 next)
@@ -123,7 +123,7 @@ pub record SoServed (turns : ℕ) (old new : LinkTold) (kept : Kept) (state : St
   pub notes : List LinkNote
   pub count : length steps ≡ turns
   pub no_end : NoEnd steps
-  pub readings : List Reading
+  pub readings : List ConsoleReading
   pub counts : TurnCounts
   pub leaves : run steps (at_first kept) ≡ record { state = state; notes = notes; unsealed = []; counts = counts; consoles = record { readings = readings; stops = false } }
   pub said : AreSaid readings
@@ -233,7 +233,7 @@ cut_in o before n new (Err w) all notes some (more, e, inr stops) closed k passe
 none_kept : (r : Result Bool WantOfMemory) (w : WantOfMemory) (k : Keeping) → r ≡ Err w → MatchResult r (λ _. Unit {0}) (λ _. k ≡ IsPassed) → k ≡ IsPassed
 none_kept r w k bad e = subst (λ (q : Result Bool WantOfMemory). MatchResult q (λ _. Unit {0}) (λ _. k ≡ IsPassed)) bad e
 
-said_more : (a b : List Reading) → AreSaid a → AreSaid b → AreSaid (a ++ b)
+said_more : (a b : List ConsoleReading) → AreSaid a → AreSaid b → AreSaid (a ++ b)
 said_more [] b first second = second
 said_more (r ∷ a) b first second = (first.0, said_more a b first.1 second)
 

@@ -13,7 +13,7 @@ use Rattle.mail_loop.specs.Hindrance.{Hindrance, Clear, Unheard}
 use Rattle.mail_loop.specs.Turns.{Outcome, Heard, after, goes_on, turns, outcome_of, heard_by}
 use Rattle.console_head.specs.Request.{Stage}
 use Rattle.mail_loop.specs.declared.reply.Turned.{Turned}
-use Rattle.mail_loop.specs.ConsoleTurn.{AreSaid, Reading, no_consoles}
+use Rattle.mail_loop.specs.ConsoleTurn.{AreSaid, ConsoleReading, no_consoles}
 use Rattle.mail_loop.specs.Afterwards.{taking}
 use Rattle.mail_loop.specs.Machine.{heard, hears, seated, told_others, with_reply}
 use Rattle.mail_loop.proofs.Sealed.{no_more, none_before, counts_regroup}
@@ -228,7 +228,7 @@ seat_goes false seat shut = absurd (let w : false ≡ true = shut in cc)
 -- failed, what could not be read, and its seat then.
 abbrev pub HeardAlone : (List JournalRecord → TurnCounts → Type 0) → ℕ → Kept → Seats → ℕ → Seat → List ℕ → Turned → Kept → Seat → Type 0
 HeardAlone S at kept seats conn seat bytes turned kept' seat' =
-    (no_memory : Bool) × (hs : List Hindrance) × (stage : Stage) × (failed : List JournalRecord) × (counts : TurnCounts) × S failed counts × (readings : List Reading) × AreSaid readings
+    (no_memory : Bool) × (hs : List Hindrance) × (stage : Stage) × (failed : List JournalRecord) × (counts : TurnCounts) × S failed counts × (readings : List ConsoleReading) × AreSaid readings
     × (hears no_memory hs stage at (record { kept = kept; seats = seats }) conn seat bytes
     ≡ answered_alone conn turned kept' failed counts readings seat' seats)
 

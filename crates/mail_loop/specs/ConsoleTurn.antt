@@ -12,13 +12,13 @@ use Rattle.mail_loop.specs.declared.console_turn.Sequel.{Sequel}
 use Rattle.mail_loop.specs.Hindrance.{Hindrance, Clear, Refused, Textless, Unread, UnreadRefused, UnreadUnheard, Misread, Misled, Unstored, Unheard, Unanswered, Unsealed, Untold, Unwritten, UnwrittenUnheard, Halfway}
 
 -- the bytes of a console, and what they were read as
-pub record Reading : Type 0 where
+pub record ConsoleReading : Type 0 where
   pub bytes : List ℕ
   pub stage : Stage
 
 -- what consoles' bytes were read as, and whether one asked serving to stop
 pub record Consoles : Type 0 where
-  pub readings : List Reading
+  pub readings : List ConsoleReading
   pub stops : Bool
 
 abbrev pub no_consoles : Consoles
@@ -29,7 +29,7 @@ abbrev pub both : Consoles → Consoles → Consoles
 both a b = record { readings = a.readings ++ b.readings; stops = a.stops || b.stops }
 
 -- each was read as what it is
-abbrev pub AreSaid : List Reading → Type 0
+abbrev pub AreSaid : List ConsoleReading → Type 0
 AreSaid readings = AllByRecursion (λ r. Says r.bytes r.stage) readings
 
 -- how a console's turn may go otherwise

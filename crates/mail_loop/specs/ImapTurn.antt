@@ -19,7 +19,7 @@ use Rattle.imap_session.specs.declared.dialog.Pending.{Pending}
 use Rattle.imap_session.specs.declared.dialog.Pending.TheVariants as on
 use Rattle.imap_session.specs.declared.dialog.Selected.{Selected}
 use Rattle.imap_session.specs.declared.out.ImapOut.{ImapOut}
-use Rattle.imap_session.specs.declared.out.ImapOut.TheVariants.{Say as Says, Read as Reads, Submit as Submits, Bye as Ends}
+use Rattle.imap_session.specs.declared.out.ImapOut.TheVariants.{Say as Says, Read as Reads, Submit as Submits, Bye as Goodbye}
 use Rattle.imap_session.specs.declared.words.Answer.TheVariants.{Refused as IsToldRefused}
 use Rattle.imap_session.specs.declared.words.Word.{Word}
 use Rattle.imap_session.specs.Dialog as session
@@ -35,7 +35,7 @@ abbrev pub of_imap : ImapOut → Out
 of_imap (Says said) = Say said
 of_imap (Reads bodies) = Read bodies
 of_imap (Submits asked) = Submit asked
-of_imap (Ends said) = Bye said
+of_imap (Goodbye said) = Bye said
 
 abbrev pub took_by : session.Took → Took Dialog
 took_by t = took (of_imap t.out) t.dialog

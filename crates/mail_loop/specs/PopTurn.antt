@@ -13,7 +13,7 @@ use Rattle.pop_session.specs.declared.dialog.Awaits.TheVariants.{Nothing, Text, 
 use Rattle.pop_session.specs.declared.dialog.Dialog.{Dialog}
 use Rattle.pop_session.specs.declared.dialog.Pending.TheVariants as on
 use Rattle.pop_session.specs.declared.out.PopOut.{PopOut}
-use Rattle.pop_session.specs.declared.out.PopOut.TheVariants.{Say as Says, Read as Reads, Submit as Submits, Bye as Ends}
+use Rattle.pop_session.specs.declared.out.PopOut.TheVariants.{Say as Says, Read as Reads, Submit as Submits, Bye as Goodbye}
 use Rattle.pop_session.specs.Answer.{answer_text}
 use Rattle.pop_session.specs.Dialog as session
 use Rattle.store_kept.specs.Kept.{Kept, store_of}
@@ -28,14 +28,14 @@ abbrev pub of_pop : PopOut → Out
 of_pop (Says said) = Say said
 of_pop (Reads body) = Read (body ∷ [])
 of_pop (Submits asked) = Submit asked
-of_pop (Ends said) = Bye said
+of_pop (Goodbye said) = Bye said
 
 -- a text is to be read
 abbrev pub is_read : PopOut → Bool
 is_read (Says said) = false
 is_read (Reads body) = true
 is_read (Submits asked) = false
-is_read (Ends said) = false
+is_read (Goodbye said) = false
 
 abbrev pub took_by : session.Took → Took Dialog
 took_by t = took (of_pop t.out) t.dialog

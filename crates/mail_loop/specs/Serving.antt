@@ -12,7 +12,7 @@ use Rattle.verb_bytes.specs.declared.journal.JournalRecord.{JournalRecord}
 use Rattle.desk_journal.specs.Reading.{Counted, Reads, RoseAtLeast}
 use Rattle.mail_loop.specs.TurnCounts.{TurnCounts, both_counted, none_counted}
 use Rattle.mail_loop.specs.State.{State}
-use Rattle.mail_loop.specs.ConsoleTurn.{AreSaid, Consoles, Reading, both, no_consoles}
+use Rattle.mail_loop.specs.ConsoleTurn.{AreSaid, Consoles, ConsoleReading, both, no_consoles}
 use Rattle.mail_loop.specs.Machine.{Hindrances, IsPassed, Outcome, happens, is_end}
 use Rattle.mail_loop.specs.Did.{left_out_of, missed_of}
 
@@ -68,7 +68,7 @@ abbrev pub out_of_memory_in : List Step → Kept → ℕ
 out_of_memory_in steps old = (counts_in steps old).out_of_memory
 
 -- what consoles' bytes were read as in these steps
-abbrev pub readings_in : List Step → Kept → List Reading
+abbrev pub readings_in : List Step → Kept → List ConsoleReading
 readings_in steps old = (run steps (at_first old)).consoles.readings
 
 -- whether a console asked serving to stop in these steps

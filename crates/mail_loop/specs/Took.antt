@@ -35,7 +35,7 @@ use Rattle.mail_loop.specs.Asked.{asked_as}
 use Rattle.mail_loop.specs.Turn.{Turn, lost}
 use Rattle.mail_loop.specs.Session.{Speech, is_answer, settled, settled_as, submits, took}
 use Rattle.mail_loop.specs.Hindrance.{Hindrance, Service, under}
-use Rattle.mail_loop.specs.ConsoleTurn.{Reading, no_consoles, sequel_of}
+use Rattle.mail_loop.specs.ConsoleTurn.{ConsoleReading, no_consoles, sequel_of}
 use Rattle.mail_loop.specs.Turns.{Heard}
 use Rattle.mail_loop.specs.Machine.{Answered as AnsweredEvent, seated, told_others, with_reply}
 use Rattle.mail_loop.specs.Stands.{reply_of}
@@ -230,7 +230,7 @@ pub record TellsTurns (h : Heard) (seats : Seats) (conn : ℕ) (reply : Reply) (
   pub heard_is : h ≡ record { said = reply.said; state = record { kept = kept; seats = seats }; seat = seat_left reply.closes seat; aftermath = taking reply.gone; unsealed = failed; counts = counts; consoles = no_consoles }
 
 -- a connection is told of its turns, and others of what follows
-abbrev pub answered_with : ℕ → Turned → Kept → List JournalRecord → TurnCounts → List Reading → Seats → AnsweredEvent
+abbrev pub answered_with : ℕ → Turned → Kept → List JournalRecord → TurnCounts → List ConsoleReading → Seats → AnsweredEvent
 answered_with conn turned kept failed counts readings seats = record {
   state = record { kept = kept; seats = seats };
   replies = with_reply (reply_of turned) (told_others conn turned.aftermath seats);
@@ -240,6 +240,6 @@ answered_with conn turned kept failed counts readings seats = record {
 }
 
 -- the same, and its seat is now this one, or none where it is closed
-abbrev pub answered_alone : ℕ → Turned → Kept → List JournalRecord → TurnCounts → List Reading → Seat → Seats → AnsweredEvent
+abbrev pub answered_alone : ℕ → Turned → Kept → List JournalRecord → TurnCounts → List ConsoleReading → Seat → Seats → AnsweredEvent
 answered_alone conn turned kept failed counts readings seat seats =
     answered_with conn turned kept failed counts readings (seated conn (seat_left turned.closes seat) seats)

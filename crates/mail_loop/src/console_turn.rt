@@ -1,11 +1,17 @@
 //! The turn of a console: its session answers one request over the desk.
+//!
+//! IMAP clients are told and closed also where no memory was found for the operator's answer to a cycle that was done. One who
+//! joins later in the same run is served as ever.
+//!
+//! The room for the strings of an event is taken before its cycle: where it is not found nothing is done, and serving ends for
+//! want of memory.
 ghost use Rattle.std.specs.Prelude.{◌≡◌, ◌≤◌, Bool, List, false};
 ghost use Rattle.verb_bytes.specs.declared.journal.JournalRecord.{JournalRecord};
 ghost use Rattle.console_head.specs.Request.{Stage};
 ghost use Rattle.mail_loop.specs.State.{Http as HttpSeat, Seats};
 ghost use Rattle.mail_loop.specs.Asked.{HaveSealed};
 ghost use Rattle.mail_loop.specs.TurnCounts.{TurnCounts};
-ghost use Rattle.mail_loop.specs.ConsoleTurn.{AreSaid, Reading, sequel_of};
+ghost use Rattle.mail_loop.specs.ConsoleTurn.{AreSaid, ConsoleReading, sequel_of};
 ghost use Rattle.mail_loop.specs.Hindrance.{Hindrance};
 ghost use Rattle.mail_loop.specs.Machine.{hears};
 ghost use Rattle.mail_loop.specs.Took.{answered_alone, turned_as};
@@ -80,7 +86,7 @@ pub fn hear_console<R: Threads + Sync, D: Disk + Drop, G: Gate>(
     requires sealed { desk.old.closed ≡ false }
     ensures house { desk.new.kept.house ≡ desk.old.kept.house }
     ensures heard { (seats : Seats) → (no_memory : Bool) × (hs : List Hindrance) × (stage : Stage) × (failed : List JournalRecord) × (counts : TurnCounts) ×
-        HaveSealed D.told desk.old desk.new failed counts × (readings : List Reading) × AreSaid readings ×
+        HaveSealed D.told desk.old desk.new failed counts × (readings : List ConsoleReading) × AreSaid readings ×
         (hears no_memory hs stage at (record { kept = desk.old.kept; seats = seats }) conn (HttpSeat console.old) bytes.now
         ≡ answered_alone conn result desk.new.kept failed counts readings (HttpSeat console.new) seats) }
 {

@@ -5,7 +5,7 @@ ghost use Rattle.pop_session.specs.Dialog.{is_at_home, is_free};
 ghost use Rattle.verb_bytes.specs.declared.journal.JournalRecord.{JournalRecord};
 ghost use Rattle.mail_loop.specs.Asked.{HaveSealed};
 ghost use Rattle.mail_loop.specs.TurnCounts.{TurnCounts};
-ghost use Rattle.mail_loop.specs.ConsoleTurn.{AreSaid, Reading};
+ghost use Rattle.mail_loop.specs.ConsoleTurn.{AreSaid, ConsoleReading};
 ghost use Rattle.mail_loop.specs.Hindrance.{Hindrance};
 ghost use Rattle.mail_loop.specs.Machine.{hears};
 ghost use Rattle.mail_loop.specs.PopTurn.{in_use, pop_beside};
@@ -79,7 +79,7 @@ fn hear_beside<D: Disk + Drop>(
     ensures home { is_at_home desk.new.kept.house dialog.new ≡ true }
     ensures house { desk.new.kept.house ≡ desk.old.kept.house }
     ensures heard { (seats : Seats) → users.now ≡ in_use (beside conn seats) → (no_memory : Bool) × (hs : List Hindrance) × (stage : Stage) × (failed : List JournalRecord) × (counts : TurnCounts) ×
-        HaveSealed D.told desk.old desk.new failed counts × (readings : List Reading) × AreSaid readings ×
+        HaveSealed D.told desk.old desk.new failed counts × (readings : List ConsoleReading) × AreSaid readings ×
         (hears no_memory hs stage at (record { kept = desk.old.kept; seats = seats }) conn (PopSeat unserved.old dialog.old) bytes.now
         ≡ answered_alone conn result desk.new.kept failed counts readings (PopSeat unserved.new dialog.new) seats) }
 {
@@ -109,7 +109,7 @@ pub fn hear_fetching<D: Disk + Drop>(
     ensures home { is_at_home desk.new.kept.house dialog.new ≡ true }
     ensures house { desk.new.kept.house ≡ desk.old.kept.house }
     ensures heard { (seats : Seats) → AreInUse conn seats (PopSeat unserved.old dialog.old) found.now → (no_memory : Bool) × (hs : List Hindrance) × (stage : Stage) × (failed : List JournalRecord) × (counts : TurnCounts) ×
-        HaveSealed D.told desk.old desk.new failed counts × (readings : List Reading) × AreSaid readings ×
+        HaveSealed D.told desk.old desk.new failed counts × (readings : List ConsoleReading) × AreSaid readings ×
         (hears no_memory hs stage at (record { kept = desk.old.kept; seats = seats }) conn (PopSeat unserved.old dialog.old) bytes.now
         ≡ answered_alone conn result desk.new.kept failed counts readings (PopSeat unserved.new dialog.new) seats) }
 {

@@ -1,4 +1,15 @@
 //! The strings of an event: that of the connection that it is about, and those of others whose mailbox changed.
+//!
+//! A connection whose turns close it loses its seat at once; its reply and close go out at the end of the event. A close whose
+//! string was missed takes the seat away then.
+//!
+//! Each reply has a delivery of its own: it arrives, is missed, or is left out for want of memory. A link counts the calls that
+//! found no memory: one for each string that is left out, one for a `next` or a `close` that ends serving so, and no other.
+//! Serving goes on after a string that is left out.
+//!
+//! The loop takes memory for the places of an event's strings before the event is served: as many as there are open connections,
+//! and one. Where there is none serving ends with want of memory and nothing of the event is done. So after a seal that failed
+//! the answer and the close can be cut short by nothing but a `close` that found no memory.
 ghost use Rattle.std.specs.Prelude.{◌≡◌, ◌<◌, ◌≤◌, ◌∷◌, [], length, nat_lt, option_map, position, vec_capacity, vec_len, IfOk};
 ghost use Rattle.std.specs.List.{insert, position_or_len};
 ghost use Rattle.mail_loop.specs.Machine.{parting, told_other, told_others, with_reply};
@@ -178,10 +189,7 @@ fn with_letter(letters: Vec<Letter>, place: usize, letter: Letter) -> Vec<Letter
     ensures { result.items ≡ insert letters.items place letter }
 {
     let mut letters = letters;
-    match letters.insert(place, letter) {
-        Ok(()) => {}
-        Err(_) => unreachable!(),
-    }
+    let _room_is_there = letters.insert(place, letter);
     letters
 }
 

@@ -1,4 +1,8 @@
 //! An open connection: what it speaks, its stream and its dialog, and what it makes of the bytes that come.
+//!
+//! Open connections are a list by rising number to contracts; the code keeps a `BTreeMap`.
+//!
+//! Who is logged in is a user of the house in every seat: the loop keeps that, so the desk is asked for known users alone.
 ghost use Rattle.std.specs.Prelude.{◌≡◌, ◌≤◌, Bool, List, Some, false, option_map, true};
 ghost use Rattle.std.specs.List.{list_any};
 ghost use Rattle.verb_core.specs.declared.mailbox.BoxId.{BoxId as TheBoxId};
@@ -13,7 +17,7 @@ ghost use Rattle.mail_loop.specs.TurnCounts.{TurnCounts};
 ghost use Rattle.mail_loop.specs.Hindrance.{Hindrance};
 ghost use Rattle.mail_loop.specs.Turns.{hears_lines, hears_commands};
 ghost use Rattle.console_head.specs.Request.{Stage};
-ghost use Rattle.mail_loop.specs.ConsoleTurn.{AreSaid, Reading};
+ghost use Rattle.mail_loop.specs.ConsoleTurn.{AreSaid, ConsoleReading};
 ghost use Rattle.mail_loop.specs.Machine.{hears, seat_at};
 ghost use Rattle.mail_loop.specs.Afterwards.{holds_one, last_words};
 ghost use Rattle.mail_loop.specs.ImapTook.{is_not_yet};
@@ -241,7 +245,7 @@ fn hear_smtp<D: Disk + Drop>(
     ensures free { smtp.is_free dialog.new ≡ true }
     ensures house { desk.new.kept.house ≡ desk.old.kept.house }
     ensures heard { (seats : Seats) → (no_memory : Bool) × (hs : List Hindrance) × (stage : Stage) × (failed : List JournalRecord) × (counts : TurnCounts) ×
-        HaveSealed D.told desk.old desk.new failed counts × (readings : List Reading) × AreSaid readings ×
+        HaveSealed D.told desk.old desk.new failed counts × (readings : List ConsoleReading) × AreSaid readings ×
         (hears no_memory hs stage at (record { kept = desk.old.kept; seats = seats }) conn (SmtpSeat unserved.old dialog.old) bytes.now
         ≡ answered_alone conn result desk.new.kept failed counts readings (SmtpSeat unserved.new dialog.new) seats) }
 {
@@ -317,7 +321,7 @@ fn hear_imap<D: Disk + Drop>(
     ensures home { is_at_home desk.new.kept.house dialog.new ≡ true }
     ensures house { desk.new.kept.house ≡ desk.old.kept.house }
     ensures heard { (seats : Seats) → (no_memory : Bool) × (hs : List Hindrance) × (stage : Stage) × (failed : List JournalRecord) × (counts : TurnCounts) ×
-        HaveSealed D.told desk.old desk.new failed counts × (readings : List Reading) × AreSaid readings ×
+        HaveSealed D.told desk.old desk.new failed counts × (readings : List ConsoleReading) × AreSaid readings ×
         (hears no_memory hs stage at (record { kept = desk.old.kept; seats = seats }) conn (ImapSeat stream.old dialog.old) bytes.now
         ≡ answered_alone conn result desk.new.kept failed counts readings (ImapSeat stream.new dialog.new) seats) }
 {
@@ -346,7 +350,7 @@ pub fn hear<R: Threads + Sync, D: Disk + Drop, G: Gate>(
     ensures home { IsHome desk.new.kept.house connection.new }
     ensures house { desk.new.kept.house ≡ desk.old.kept.house }
     ensures heard { (seats : Seats) → seat_at occasion.conn seats ≡ Some connection.old → AreInUse occasion.conn seats connection.old in_use.now → (no_memory : Bool) × (hs : List Hindrance) × (stage : Stage) × (failed : List JournalRecord) × (counts : TurnCounts) ×
-        HaveSealed D.told desk.old desk.new failed counts × (readings : List Reading) × AreSaid readings ×
+        HaveSealed D.told desk.old desk.new failed counts × (readings : List ConsoleReading) × AreSaid readings ×
         (hears no_memory hs stage occasion.at (record { kept = desk.old.kept; seats = seats }) occasion.conn connection.old bytes.now
         ≡ answered_alone occasion.conn result desk.new.kept failed counts readings connection.new seats) }
 {

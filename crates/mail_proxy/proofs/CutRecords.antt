@@ -26,7 +26,7 @@ use Rattle.desk_journal.specs.Founding.{cut_records}
 use Rattle.desk_journal.specs.Records.{payloads_of}
 use Rattle.base_cut.specs.declared.parts.CutParts.{CutParts}
 use Rattle.base_cut.specs.Cutting.{body_of, cut_payloads, whole}
-use Rattle.base_cut.proofs.Around.{whole_none, whole_same}
+use Rattle.verb_bytes.proofs.Around.{whole_none, whole_same}
 use Rattle.time_desk.specs.Cutting.{AreParts, base_record}
 
 -- ---- the texts that come with the base

@@ -25,7 +25,7 @@ use Rattle.base_cut.specs.declared.fault.CutFault.TheVariants.{Read, Sink, NoMem
 use Rattle.base_cut.specs.declared.parts.CutParts.{CutParts}
 use Rattle.base_cut.specs.Cutting.{AreCut, IsKeptOf, IsTextOf, ReadsTo, WritesWhole, body_of, closed_journal, holds_text}
 use Rattle.base_cut.proofs.Told.{cut_exact, kept_before, rose, text_before}
-use Rattle.base_cut.specs.Writing.{Took}
+use Rattle.base_cut.specs.Writing.{SinkTook}
 use Rattle.time_desk.specs.declared.fault.CycleFault.{CycleFault}
 use Rattle.time_desk.specs.declared.fault.CycleFault.TheVariants.{Point, Numbers, Disk as DiskFault, NoMemory as NoMemoryFault, Closed}
 use Rattle.time_desk.specs.Cutting as parts
@@ -84,7 +84,7 @@ module _ {D : Type 0} (told : D → DiskTold) where
         (
           w.front,
           record { back = w.back; split = w.split; some = w.some; begun = some_read begun; unfinished = unfinished },
-          subst (λ (t : SinkTold). Took out t w.front) (sym w.stops) w.took,
+          subst (λ (t : SinkTold). SinkTook out t w.front) (sym w.stops) w.took,
         ),
       )
     where

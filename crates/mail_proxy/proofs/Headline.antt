@@ -21,7 +21,7 @@ use Rattle.mail_loop.specs.declared.serve.ServeFault.TheVariants as serve
 use Rattle.mail_loop.specs.Serving.{Ends, Served, Serves, Step, events_of, unsealed_in}
 use Rattle.script_link.specs.Script.{script_of}
 use Rattle.script_link.specs.Transcript.{transcript_of}
-use Rattle.base_cut.specs.Writing.{Took, WritesAll}
+use Rattle.base_cut.specs.Writing.{SinkTook, WritesAll}
 use Rattle.command_words.specs.declared.commands.Command.{Command}
 use Rattle.command_words.specs.declared.commands.Command.TheVariants.{Init, Serve, Script, Play, Grow, Check, Cut, Audit}
 use Rattle.command_words.specs.Usage.{command_of}
@@ -136,7 +136,7 @@ module _ {D : Type 0} (told : D → DiskTold) (disk : D) (end : End D) (text tex
       absurd (omega (arith, eight, good))
 
   served_events : (t : List ℕ) → IsText text.left t → nat_lt 67108864 (length t) ≡ false → (events : List Event) → script_of t ≡ Ok events → (desk : Lasting D)
-      → ServesEvents told disk events desk end → end.status ≡ 0 → Took out out' end.output → HonestDisk (told disk) → ServedScript before after
+      → ServesEvents told disk events desk end → end.status ≡ 0 → SinkTook out out' end.output → HonestDisk (told disk) → ServedScript before after
   served_events t is_text short events is desk (last, r, disk_is, lasts) good took honest =
       let planned = sym (outcome_zero r.outcome r.notes r.tells good) in
       let well = ended_well r.outcome (sym planned) in
@@ -149,7 +149,7 @@ module _ {D : Type 0} (told : D → DiskTold) (disk : D) (end : End D) (text tex
         are_first = r.played.events_are;
         notes = r.notes;
         served = to_end told r.steps r.outcome desk last r.desk (told disk) (told end.disk) r.notes (lasts honest) to.0 to.1 to.2;
-        wrote = subst (Took out out') (transcript_alone r.outcome r.notes well good r.tells) took;
+        wrote = subst (SinkTook out out') (transcript_alone r.outcome r.notes well good r.tells) took;
       }
     where
       outcome_zero : (outcome : Result (Unit {0}) ServeFault) (notes : List LinkNote)
@@ -159,7 +159,7 @@ module _ {D : Type 0} (told : D → DiskTold) (disk : D) (end : End D) (text tex
       outcome_zero (Ok x) notes (inr (status, line)) good = refl
       outcome_zero (Err e) notes (inr (status, line)) good = sym status ∙ good
 
-  served_script : Scripts told text text' disk end → end.status ≡ 0 → Took out out' end.output → HonestDisk (told disk) → ServedScript before after
+  served_script : Scripts told text text' disk end → end.status ≡ 0 → SinkTook out out' end.output → HonestDisk (told disk) → ServedScript before after
   served_script (inl (t, (is_text, clean), read)) good took honest = by_length (nat_lt 67108864 (length t)) refl read
     where
       by_script : (script : Result (List Event) ℕ) → script_of t ≡ script → nat_lt 67108864 (length t) ≡ false → RunsScript told disk script end → ServedScript before after
@@ -174,7 +174,7 @@ module _ {D : Type 0} (told : D → DiskTold) (disk : D) (end : End D) (text tex
   served_script (inr (inr (e, clean))) good took honest = absurd (other_end 8 _ e (λ z. omega (arith, z)) good)
 
   module _ (s : ℕ) where
-    by_command : (command : Option Command) → Does told command text text' link link' s out out' disk end → end.status ≡ 0 → Took out out' end.output → HonestDisk (told disk)
+    by_command : (command : Option Command) → Does told command text text' link link' s out out' disk end → end.status ≡ 0 → SinkTook out out' end.output → HonestDisk (told disk)
         → IsServed command before after
     by_command None does good took honest = tt
     by_command (Some Init) does good took honest = tt
@@ -186,7 +186,7 @@ module _ {D : Type 0} (told : D → DiskTold) (disk : D) (end : End D) (text tex
     by_command (Some (Cut point)) does good took honest = tt
     by_command (Some Audit) does good took honest = tt
 
-    by_answers : (words : List (List ℕ)) → Answers told words text text' link link' s out out' disk end → end.status ≡ 0 → Took out out' end.output → HonestDisk (told disk)
+    by_answers : (words : List (List ℕ)) → Answers told words text text' link link' s out out' disk end → end.status ≡ 0 → SinkTook out out' end.output → HonestDisk (told disk)
         → IsServed (command_of words) before after
     by_answers words (inl does) good took honest = by_command (command_of words) does good took honest
     by_answers words (inr (kept, (same, e))) good took honest = absurd (other_end 8 no_memory e (λ z. omega (arith, z)) good)

@@ -32,7 +32,7 @@ use Rattle.mail_proxy.specs.Cutting.{RunsOutOfMemoryBegun}
 use Rattle.mail_proxy.specs.Init.{IsNoConfig}
 use Rattle.mail_proxy.specs.Profiles.{TextUse, DeskUse, NoText, Configuration, EventScript, NoDesk, Formatted, Opened, Begun, profile_of, reads_on, takes_script, opens, serves, uses_link, uses_text, writes_more}
 use Rattle.mail_proxy.specs.Lines.{usage, too_long, bad_configuration, bad_line, not_empty, not_a_store, link_fault, disk_fault, read_fault, too_many, no_memory, damaged, no_such_point, false_record_at, lf}
-use Rattle.base_cut.specs.Writing.{Took, WriteFails, WriteRunsOutOfMemory, Wrote}
+use Rattle.base_cut.specs.Writing.{SinkTook, WriteFails, WriteRunsOutOfMemory, Wrote}
 use Rattle.mail_proxy.specs.Reading.{ReadFails}
 use Rattle.mail_proxy.specs.Script.{Played, opening}
 use Rattle.mail_proxy.specs.Texts.{IsText}
@@ -171,12 +171,12 @@ pub record IsCut (disk : DiskTold) (point : ℕ) (bytes : List ℕ) : Type 0 whe
 -- the cut was written whole: each of its payloads has a frame, and that of an honest disk opens as what was kept, cut at the point
 abbrev pub CutWell : Outside → Outside → ℕ → Type 0
 CutWell old new point =
-    (bytes : List ℕ) × (is : IsCut old.disk point bytes) × Took old.out new.out bytes × AllByRecursion IsPayload is.payloads
+    (bytes : List ℕ) × (is : IsCut old.disk point bytes) × SinkTook old.out new.out bytes × AllByRecursion IsPayload is.payloads
     × (old.disk.honest → OpensAs bytes (Ok (cut is.first is.place)))
 
 -- a store was opened, the records of an honest disk are true, and it was told so
 abbrev pub AuditedWell : Outside → Outside → Type 0
-AuditedWell old new = HasDesk (Some Audit) old.disk × (old.disk.honest → AreTrueIn old.disk.content) × Took old.out new.out (codes "true" ++ lf)
+AuditedWell old new = HasDesk (Some Audit) old.disk × (old.disk.honest → AreTrueIn old.disk.content) × SinkTook old.out new.out (codes "true" ++ lf)
 
 -- a store that was cut was cut well, and an audit ended well
 abbrev pub ReadWell : Option Command → Outside → Outside → Type 0
@@ -187,7 +187,7 @@ ReadWell other old new = Unit {0}
 -- a first part of the cut was written, which was begun and is no journal
 abbrev pub CutShort : Outside → Outside → ℕ → Type 0
 CutShort old new point =
-    (front : List ℕ) × (back : List ℕ) × IsCut old.disk point (front ++ back) × (0 < length front) × (0 < length back) × IsUnfinished front × Took old.out new.out front
+    (front : List ℕ) × (back : List ℕ) × IsCut old.disk point (front ++ back) × (0 < length front) × (0 < length back) × IsUnfinished front × SinkTook old.out new.out front
 
 -- a store that was cut was cut short, where a text was not read
 abbrev pub ReadShort : Option Command → Outside → Outside → Type 0
@@ -207,7 +207,7 @@ RunsOutOfMemory other old new output = WriteRunsOutOfMemory old.out new.out outp
 module _ (command : Option Command) (old new : Outside) where
   -- a script was served well, so that none of its strings was missed or left out, and its transcript was written whole
   abbrev pub PlayedWell : Type 0
-  PlayedWell = (transcript : List ℕ) × RanTo command old.text.left old.disk (Ok tt) transcript × Took old.out new.out transcript
+  PlayedWell = (transcript : List ℕ) × RanTo command old.text.left old.disk (Ok tt) transcript × SinkTook old.out new.out transcript
 
   -- 0: the words are a command, and no read and no write failed, but for reads of texts while events were served. A script was served well, or a
   -- store cut well, or its records are true.

@@ -13,7 +13,7 @@ use Rattle.base_cut.specs.declared.fault.CutFault.{CutFault}
 use Rattle.base_cut.specs.declared.fault.CutFault.TheVariants as cut
 use Rattle.base_cut.specs.declared.parts.CutParts.{CutParts}
 use Rattle.base_cut.specs.Cutting.{AreCut, IsUnfinished, closed_journal}
-use Rattle.base_cut.specs.Writing.{Took}
+use Rattle.base_cut.specs.Writing.{SinkTook}
 use Rattle.time_desk.specs.declared.fault.CycleFault.{CycleFault}
 use Rattle.time_desk.specs.declared.fault.CycleFault.TheVariants.{Point, Numbers, Disk, NoMemory, Closed}
 use Rattle.time_desk.specs.Lending.{desk_told}
@@ -58,7 +58,7 @@ cut_status cut.NoMemory = 8
 -- written, and no memory was found for what was next.
 abbrev pub RunsOutOfMemoryBegun : SinkTold → SinkTold → List ℕ → Type 0
 RunsOutOfMemoryBegun old new bytes =
-    (front : List ℕ) × (back : List ℕ) × (bytes ≡ front ++ back) × (0 < length back) × (before : SinkTold) × Took old before front
+    (front : List ℕ) × (back : List ℕ) × (bytes ≡ front ++ back) × (0 < length back) × (before : SinkTold) × SinkTook old before front
     × (WantsToWrite before new ⊎ ((new ≡ before) × (0 < length front)))
 
 -- with this status a journal of these payloads was to be written: with 0 each payload has a frame, and with 8 it was begun unless the sink
@@ -98,7 +98,7 @@ module _ {D : Type 0} (told : D → DiskTold) where
   -- a text was not read, and a first part of the cut was written, and no last line
   abbrev pub IsCutShort : Type 0 → Lasting D → ℕ → ℕ → List ℕ → SinkTold → SinkTold → Type 0
   IsCutShort stored first point status output out out' =
-      (payloads : List (List ℕ)) × IsCutOf stored first point payloads × (status ≡ 5) × IsShort payloads output × Took out out' output
+      (payloads : List (List ℕ)) × IsCutOf stored first point payloads × (status ≡ 5) × IsShort payloads output × SinkTook out out' output
 
   -- a read of the disk failed
   abbrev pub ReadRose : Lasting D → Lasting D → Type 0
@@ -116,7 +116,7 @@ module _ {D : Type 0} (told : D → DiskTold) where
   abbrev pub WritesParts : Lasting D → Lasting D → List (List ℕ) → ℕ → SinkTold → SinkTold → Type 0
   WritesParts old new payloads status out out' =
       (ReadsWell told old new × Shows 0 (closed_journal payloads) status out out' × WritesJournal payloads status out out')
-      ⊎ (ReadRose old new × (status ≡ 5) × ((front : List ℕ) × IsShort payloads front × Took out out' front))
+      ⊎ (ReadRose old new × (status ≡ 5) × ((front : List ℕ) × IsShort payloads front × SinkTook out out' front))
 
   -- a store that was opened is cut at a point; of its disk nothing changes but what reading leaves
   abbrev pub CutsOpened : D → ℕ → ℕ → SinkTold → SinkTold → Lasting D → End D → Type 0

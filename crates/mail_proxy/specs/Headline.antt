@@ -12,7 +12,7 @@ use Rattle.desk_journal.specs.Records.{StandsForRecords, payloads_of, state}
 use Rattle.mail_loop.specs.Serving.{ComeInOrder, Ends, Step, at_first, events_of, run}
 use Rattle.script_link.specs.Transcript.{transcript_of}
 use Rattle.journal_laws.specs.Keeping.{KeepsMail}
-use Rattle.base_cut.specs.Writing.{Took}
+use Rattle.base_cut.specs.Writing.{SinkTook}
 use Rattle.command_words.specs.declared.commands.Command.{Command}
 use Rattle.command_words.specs.declared.commands.Command.TheVariants.{Serve, Script}
 use Rattle.mail_proxy.specs.Causes.{IsScript, Outside}
@@ -21,7 +21,7 @@ use Rattle.mail_proxy.specs.Script.{AreFirst}
 
 -- A store was served to the end of these events. What lay on the disk are records, which leave what is kept at first. From there the machine takes a
 -- step for each event, up to the end, and these are its notes of what is done for the clients. It seals records behind those that lay there, and all
--- of them leave what the machine keeps at last. The disk stands for them all, in order, and so does each image that a crash now may leave; where it
+-- of them leave what the machine keeps at last. The disk stands for them all, in order, and so does each image that a crash now may leave. Where it
 -- rested at first, a crash at any moment leaves the records at first and the first of the others. The store is at last what the items in force leave,
 -- UIDs and texts last, and in every state that the records lead through mail is kept.
 pub record ServedToEnd (old new : DiskTold) (events : List Event) (notes : List LinkNote) : Type 0 where
@@ -60,7 +60,7 @@ pub record ServedScript (old new : Outside) : Type 0 where
   pub are_first : AreFirst events (with_end 0 script)
   pub notes : List LinkNote
   pub served : ServedToEnd old.disk new.disk events notes
-  pub wrote : Took old.out new.out (transcript_of notes)
+  pub wrote : SinkTook old.out new.out (transcript_of notes)
 
 -- what a command that served a store comes to; of the others `Does` says all
 abbrev pub IsServed : Option Command → Outside → Outside → Type 0

@@ -1,4 +1,13 @@
 //! The top call.
+//!
+//! A word that is no text (not UTF-8) is a faulty command line, status 1; want of memory in reading the words is status 8, and
+//! its line is written. `--help` and `--version` are words that begin with `-`: status 1.
+//!
+//! What each status says is one record over the status (`Comes`), in place of a clause a status.
+//!
+//! Status 5 says what failed. It is formatting or opening, as those calls say of the disk, where `serve` took no event; or a
+//! write or a sync after a store was opened, where no read failed. A disk of length 0 opens no store, so there neither an event
+//! nor a count comes first: beside 3 such a disk gives 5 of opening, and 8.
 ghost use Rattle.std.specs.Prelude.{◌≡◌, ◌⊎◌, ℕ, false, Some, IfErr, IfOk, map, string_bytes};
 ghost use Rattle.command_words.specs.Usage.{command_of};
 ghost use Rattle.mail_proxy.specs.Answers.{Answers, Does};
@@ -149,8 +158,7 @@ pub fn run<R: Threads + Sync, S: Source, L: Link, D: Disk + Drop, W: Sink, G: Ga
 pub fn status_of_words<R: Threads + Sync, S: Source, L: Link, D: Disk + Drop, W: Sink, G: Gate>(
     rt: &R,
     alloc: Global,
-    words: &Vec<String>,
-    found: Result<(), NoMemory>,
+    words: Result<&Vec<String>, NoMemory>,
     text: &mut S,
     link: &mut L,
     disk: D,
@@ -158,17 +166,17 @@ pub fn status_of_words<R: Threads + Sync, S: Source, L: Link, D: Disk + Drop, W:
     gate: &G,
 ) -> (u8, D)
     requires { (S.told text.old).ended ≡ false }
-    ensures found { IfOk found (λ _. Runs D.told (map string_bytes words.now.items) disk result.1
+    ensures found { IfOk words.entry (λ list. Runs D.told (map string_bytes list.now.items) disk result.1
         (record { text = S.told text.old; link = L.told link.old; disk = D.told disk; out = W.told out.old })
         (S.told text.new) (L.told link.new) (W.told out.new) result.0) }
-    ensures lacked { IfErr found (λ _. (result.0 ≡ 8) × Wrote (W.told out.old) (W.told out.new) no_memory × (text.new ≡ text.old) × (link.new ≡ link.old) × (result.1 ≡ disk)) }
+    ensures lacked { IfErr words.entry (λ _. (result.0 ≡ 8) × Wrote (W.told out.old) (W.told out.new) no_memory × (text.new ≡ text.old) × (link.new ≡ link.old) × (result.1 ≡ disk)) }
     // What is not used gets no call.
-    ensures text { uses_text (command_of (map string_bytes words.now.items)) ≡ false → text.new ≡ text.old }
-    ensures link { uses_link (command_of (map string_bytes words.now.items)) ≡ false → link.new ≡ link.old }
-    ensures disk { uses_disk (command_of (map string_bytes words.now.items)) ≡ false → result.1 ≡ disk }
+    ensures text { IfOk words.entry (λ list. uses_text (command_of (map string_bytes list.now.items)) ≡ false → text.new ≡ text.old) }
+    ensures link { IfOk words.entry (λ list. uses_link (command_of (map string_bytes list.now.items)) ≡ false → link.new ≡ link.old) }
+    ensures disk { IfOk words.entry (λ list. uses_disk (command_of (map string_bytes list.now.items)) ≡ false → result.1 ≡ disk) }
 {
-    match found {
-        Ok(()) => run(rt, alloc, words, text, link, disk, out, gate),
+    match words {
+        Ok(words) => run(rt, alloc, words, text, link, disk, out, gate),
         Err(NoMemory) => (without_memory(out), disk),
     }
 }

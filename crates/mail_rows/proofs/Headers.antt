@@ -18,7 +18,7 @@ use Rattle.header_fields.specs.Values.{has_name, name_of, is_named, value_of}
 use Rattle.verb_core.specs.Filters.{occurs}
 use Rattle.mail_rows.specs.declared.header.Fields.{Fields}
 use Rattle.mail_rows.specs.declared.header.Value.{Value}
-use Rattle.mail_rows.specs.Headers.{Holds, IsCut, Pair, some_beside, some_value, some_within, with_names}
+use Rattle.mail_rows.specs.Headers.{HoldsFields, IsCut, Pair, some_beside, some_value, some_within, with_names}
 
 -- ---- values beside names
 
@@ -173,7 +173,7 @@ asked_is name needle (f ∷ fs) = elim (has_name f) as (λ b. some_value (str_to
 ]
 
 -- what is found among what was cut of a text
-pub found_is : (text name needle lower : List ℕ) (fields : Fields) (r : Bool) → Holds fields.values (with_names (fields_of text)) → lower ≡ str_to_ascii_lowercase name → r ≡ some_beside lower needle fields.values
+pub found_is : (text name needle lower : List ℕ) (fields : Fields) (r : Bool) → HoldsFields fields.values (with_names (fields_of text)) → lower ≡ str_to_ascii_lowercase name → r ≡ some_beside lower needle fields.values
     → r ≡ list_any (λ field. is_named name field && occurs needle (value_of field)) (fields_of text)
 found_is text name needle lower fields r cut low is =
     is ∙ ap (λ (n : List ℕ). some_beside n needle fields.values) low ∙ cut (str_to_ascii_lowercase name) needle ∙ asked_is name needle (fields_of text)

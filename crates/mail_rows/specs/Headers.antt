@@ -34,10 +34,10 @@ abbrev pub some_beside : {Y Z : Type 0} → List ℕ → List ℕ → BTreeMap (
 some_beside {Z = Z} name needle table = option_map_or (λ (values : Vec Value Z). some_within needle values.items) (get_by (λ k. slice_cmp nat_cmp name k.items) table) false
 
 -- the table has the values of these fields beside their names
-abbrev pub Holds : {Y Z : Type 0} → BTreeMap (Vec ℕ Y) (Vec Value Z) → List Pair → Type 0
-Holds table pairs = (name needle : List ℕ) → some_beside name needle table ≡ some_value name needle pairs
+abbrev pub HoldsFields : {Y Z : Type 0} → BTreeMap (Vec ℕ Y) (Vec Value Z) → List Pair → Type 0
+HoldsFields table pairs = (name needle : List ℕ) → some_beside name needle table ≡ some_value name needle pairs
 
 -- what was cut is the header of the text
 abbrev pub IsCut : List ℕ → Option Fields → Type 0
 IsCut text None = Unit {0}
-IsCut text (Some fields) = Holds fields.values (with_names (fields_of text))
+IsCut text (Some fields) = HoldsFields fields.values (with_names (fields_of text))

@@ -1,13 +1,16 @@
 //! What an act of the operator changes in a configuration: made beforehand, then put in without memory.
-ghost use Rattle.std.specs.Prelude.{◌≡◌, ◌≤◌, ◌<◌, [], true, not, bytes_eq, filter, insert, length, take_while, IsTrue, IfOk, vec_len, vec_capacity};
+//!
+//! An effect on the configuration carries the act, since two acts may be made on one store and applied one after the other. The
+//! new configuration is made ready from the one in force then.
+ghost use Rattle.std.specs.Prelude.{◌≡◌, ◌≤◌, ◌<◌, [], true, not, bytes_eq, filter, length, take_while, IsTrue, IfOk, vec_len, vec_capacity};
 ghost use Rattle.verb_core.specs.Step.{in_order, with_alias as alias_set, with_filter as filter_set, conf_after};
 ghost use Rattle.verb_core.specs.declared.item.Deed.TheVariants.{Act as Acts};
 ghost use Rattle.mail_rows.specs.declared.conf_change.ConfChange.TheVariants as changes;
 ghost use Rattle.mail_rows.specs.Confs.{IsOrder, Rises, changed, has_other_id, stands_before, stands_here};
 
 use crate::filter_order::{drop_ordered, ordered_place};
-use crate::mail::move_over;
 use crate::reach::recipients;
+use crate::room::{insert_within, move_over};
 use std::alloc::Global;
 use std::{mem, slice};
 use undo_base::{Copies, Name, NoMemory, Users};
@@ -82,18 +85,6 @@ fn with_room<T: Drop>(mut list: Vec<T>, mut spare: Vec<T>) -> (Vec<T>, Vec<T>)
     }
 }
 
-/// Puts an item at a place. There is room for it.
-fn insert_there<T: Drop>(list: &mut Vec<T>, place: usize, item: T)
-    requires room { vec_len list.old < vec_capacity list.old }
-    requires place { place ≤ length list.old.items }
-    ensures { list.new.items ≡ insert list.old.items place item }
-{
-    match list.insert(place, item) {
-        Ok(()) => {}
-        Err(_) => unreachable!(),
-    }
-}
-
 fn is_before(local: &Name, alias: &Alias) -> bool
     ensures { result ≡ stands_before local.now alias.now }
 {
@@ -156,7 +147,7 @@ fn set_alias_in(list: &mut Vec<Alias>, alias: Alias, rising: bool)
     if is_here(list.as_slice(), place, &alias.local) {
         list[place] = alias;
     } else {
-        insert_there(list, place, alias);
+        insert_within(list, place, alias);
     }
 }
 
@@ -246,7 +237,7 @@ fn set_filter_in(list: &mut Vec<Filter>, order: &[u32], filter: Filter)
     if place < list.len() {
         list[place] = filter;
     } else {
-        insert_there(list, place, filter);
+        insert_within(list, place, filter);
     }
 }
 

@@ -1,6 +1,11 @@
 //! The header of a text as filters look at it (RFC 5322, section 2.2). It is cut into its fields once for all of them, each
 //! field's name brought to lower case once. The values of a name are found by halves, whatever the number of fields and of
 //! filters.
+//!
+//! A filter with the scope of a field, and no other, has the header cut. The names of the filters are brought to lower case too.
+//! The values of the fields that have one name stand together in a map by the name. So however many fields a message has and
+//! filters are in force, they are not compared each with each. What follows the header is looked at for filters of the whole text
+//! alone.
 ghost use Rattle.std.specs.Prelude.{◌≡◌, ◌∷◌, ◌++◌, ◌&&◌, ◌||◌, [], IfOk, OnOk, bytes_eq};
 ghost use Rattle.std.specs.List.{list_any};
 ghost use Rattle.std.specs.Ordering.{nat_cmp};
@@ -10,7 +15,7 @@ ghost use Rattle.std.specs.Map.{remove_entry};
 ghost use Rattle.verb_core.specs.Filters.{occurs as is_within};
 ghost use Rattle.header_fields.specs.Fields.{fields_of};
 ghost use Rattle.header_fields.specs.Values.{is_named, value_of};
-ghost use Rattle.mail_rows.specs.Headers.{Holds, some_beside, some_value, some_within, with_names};
+ghost use Rattle.mail_rows.specs.Headers.{HoldsFields, some_beside, some_value, some_within, with_names};
 
 use crate::needles::occurs;
 use header_fields::{begins_field, field_len, has_name, name_in, value_in};
@@ -92,7 +97,7 @@ fn push_field<'a>(alloc: Global, fields: &mut Fields<'a>, field: &'a [u8]) -> Re
 /// The fields of the header. What follows it is not looked at.
 #[tactic(auto, using(crate::proofs::Headers::none_yet, crate::proofs::Headers::cut_more, crate::proofs::Headers::all_cut))]
 fn cut<'a>(alloc: Global, text: &'a [u8]) -> Result<Fields<'a>, NoMemory>
-    ensures { IfOk result (λ fields. Holds fields.values (with_names (fields_of text.now))) }
+    ensures { IfOk result (λ fields. HoldsFields fields.values (with_names (fields_of text.now))) }
 {
     let mut fields = Fields {
         values: BTreeMap::new(alloc),

@@ -28,6 +28,7 @@ pub mod opening;
 mod pattern;
 mod places;
 pub mod reach;
+mod room;
 pub mod rows;
 pub mod shown;
 pub mod sights;

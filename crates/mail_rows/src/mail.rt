@@ -6,6 +6,7 @@ ghost use Rattle.mail_rows.specs.Mail.{flags_set, all_flags_set};
 ghost use Rattle.mail_rows.specs.Mail.{numbered};
 
 use crate::places::key_place;
+use crate::room::move_over;
 use crate::{FlagChange, KeySet};
 use std::alloc::Global;
 use std::mem;
@@ -20,19 +21,6 @@ pub fn take_entries(alloc: Global, mailbox: &mut Mailbox) -> Entries
     mem::replace(&mut mailbox.entries, Entries::new(alloc))
 }
 
-/// Adds an entry. There is room for it.
-fn push_there(list: &mut Vec<Entry>, entry: Entry)
-    requires { vec_len list.old < vec_capacity list.old }
-    ensures items { list.new.items ≡ list.old.items ++ entry ∷ [] }
-    ensures len { vec_len list.new ≡ vec_len list.old + 1 }
-    ensures capacity { vec_capacity list.old ≤ vec_capacity list.new }
-{
-    match list.push(entry) {
-        Ok(()) => {}
-        Err(_) => unreachable!(),
-    }
-}
-
 /// Adds mail under the UIDs from the first on. There is room for it.
 fn add_mail(list: &mut Vec<Entry>, mail: &[Entry], first: u64)
     requires room { vec_len list.old + length mail.now ≤ vec_capacity list.old }
@@ -41,22 +29,8 @@ fn add_mail(list: &mut Vec<Entry>, mail: &[Entry], first: u64)
 {
     let mut uid = first;
     for entry in mail {
-        push_there(list, Entry { uid, ..*entry });
+        list.push_reserved(Entry { uid, ..*entry });
         uid += 1;
-    }
-}
-
-/// Moves a list into a spare one that has room for it.
-pub(crate) fn move_over<T: Drop>(list: &mut Vec<T>, spare: &mut Vec<T>)
-    requires empty { spare.old.items ≡ [] }
-    requires room { length list.old.items ≤ vec_capacity spare.old }
-    ensures list { list.new.items ≡ [] }
-    ensures spare { spare.new.items ≡ list.old.items }
-    ensures capacity { vec_capacity spare.old ≤ vec_capacity spare.new }
-{
-    match spare.append(list) {
-        Ok(()) => {}
-        Err(_) => unreachable!(),
     }
 }
 

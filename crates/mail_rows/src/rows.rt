@@ -3,6 +3,7 @@ ghost use Rattle.std.specs.Prelude.{◌≡◌, ◌+◌, ◌≤◌, ◌<◌, IsTr
 ghost use Rattle.verb_core.specs.Boxes.{box_cmp, box_of, is_rising, row_at, add_row, drop_row};
 ghost use Rattle.mail_rows.specs.Places.{IsPlace, IsGap};
 
+use crate::room::insert_within;
 use std::cmp::Ordering;
 use undo_base::User;
 use verb_core::{BoxId, Mailbox};
@@ -67,8 +68,5 @@ pub fn insert_row(rows: &mut Vec<(BoxId, Mailbox)>, place: usize, row: (BoxId, M
     ensures len { vec_len rows.new ≤ vec_len rows.old + 1 }
     ensures capacity { vec_capacity rows.old ≤ vec_capacity rows.new }
 {
-    match rows.insert(place, row) {
-        Ok(()) => {}
-        Err(_) => unreachable!(),
-    }
+    insert_within(rows, place, row);
 }

@@ -15,7 +15,7 @@ use Rattle.std.proofs.lemmas.List.Folds.{list_any_more, list_any_none}
 use Rattle.std.proofs.lemmas.Map.Lookups.{exact_bytes}
 use Rattle.std.proofs.lemmas.Map.Text.{is_eq-slice_cmp}
 use Rattle.std.proofs.lemmas.Slice.Eq.{bytes_eq-Decides}
-use Rattle.mail_sections.specs.Listed.{AreShort, Holds}
+use Rattle.mail_sections.specs.Listed.{AreShort, HoldsListed}
 
 flipped : (a b : Bool) → (a || b) ≡ (b || a)
 flipped true true = refl
@@ -57,7 +57,7 @@ module _ {Z : Type 0} where
 
   -- one name more in both
   pub holds_more : (old new : BTreeSet (Vec ℕ Z)) (key : Vec ℕ Z) (names : List (List ℕ)) (i : ℕ) (name : List ℕ) → i < length names → name ≡ get_or names i name
-      → key.items ≡ str_to_ascii_lowercase name → new.keys ≡ insert_key keys_cmp old.keys key → Holds old (take i names) → Holds new (take (i + 1) names)
+      → key.items ≡ str_to_ascii_lowercase name → new.keys ≡ insert_key keys_cmp old.keys key → HoldsListed old (take i names) → HoldsListed new (take (i + 1) names)
   holds_more old new key names i name more is lower keys holds = λ own.
       let test : List ℕ → Bool = λ n. bytes_eq own (str_to_ascii_lowercase n) in
       ap (λ (ks : List (Vec ℕ Z)). list_any (found own) ks) keys ∙ insert_any own key old.keys

@@ -8,8 +8,8 @@ use Rattle.std.specs.BTreeSet.{BTreeSet, contains_by}
 use Rattle.std.specs.declared.vec.Vec.{Vec}
 
 -- the set has the names of the list in lower case, and no other
-abbrev pub Holds : {Z : Type 0} → BTreeSet (Vec ℕ Z) → List (List ℕ) → Type 0
-Holds lower names = (own : List ℕ) → contains_by (λ k. slice_cmp nat_cmp own k.items) lower ≡ list_any (λ name. bytes_eq own (str_to_ascii_lowercase name)) names
+abbrev pub HoldsListed : {Z : Type 0} → BTreeSet (Vec ℕ Z) → List (List ℕ) → Type 0
+HoldsListed lower names = (own : List ℕ) → contains_by (λ k. slice_cmp nat_cmp own k.items) lower ≡ list_any (λ name. bytes_eq own (str_to_ascii_lowercase name)) names
 
 -- no name has more than 200 bytes
 abbrev pub AreShort : List (List ℕ) → Type 0

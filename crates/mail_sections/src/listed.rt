@@ -1,8 +1,12 @@
 //! Listed names, and the fields that have one: told in time that grows as the logarithm of how many names there are.
+//!
+//! A field without a colon has no name: HEADER.FIELDS never gives it, HEADER.FIELDS.NOT always does. The first `:` is sought in
+//! the whole field. One in a folded line ends no name that can be asked for, since no name has CR or LF. A first line that begins
+//! with a space or a tab is a field of its own.
 ghost use Rattle.std.specs.Prelude.{◌≡◌, ◌≤◌, length, take, IfOk, OnOk};
 ghost use Rattle.std.specs.List.{list_any};
 ghost use Rattle.std.specs.Str.{str_eq_ignore_ascii_case, str_to_ascii_lowercase};
-ghost use Rattle.mail_sections.specs.Listed.{AreShort, Holds};
+ghost use Rattle.mail_sections.specs.Listed.{AreShort, HoldsListed};
 ghost use Rattle.mail_sections.specs.Sections.{is_listed as listed, is_wanted as wanted};
 
 use header_fields::{has_name, name_in};
@@ -20,18 +24,18 @@ pub(crate) struct ListedNames<'a> {
 
 impl<'a> Model for ListedNames<'a> {
     ghost use Rattle.std.specs.Prelude.{List, ℕ};
-    ghost use Rattle.mail_sections.specs.Listed.{AreShort, Holds};
+    ghost use Rattle.mail_sections.specs.Listed.{AreShort, HoldsListed};
 
     ghost Value = { List (List ℕ) };
 
     ghost view = { λ l. l.names.now };
 
-    ghost invariant = { λ l. Holds l.lower l.names.now × AreShort l.names.now };
+    ghost invariant = { λ l. HoldsListed l.lower l.names.now × AreShort l.names.now };
 }
 
 /// Names in lower case, each once.
 fn lowered(alloc: Global, names: &[Name]) -> Result<BTreeSet<Vec<u8>>, NoMemory>
-    ensures holds { IfOk result (λ lower. Holds lower names.now) }
+    ensures holds { IfOk result (λ lower. HoldsListed lower names.now) }
     ensures short { OnOk result (AreShort names.now) }
 {
     let mut lower = BTreeSet::new(alloc);

@@ -45,7 +45,7 @@ use Rattle.pop_session.specs.declared.out.PopOut.TheVariants.{Say}
 use Rattle.pop_session.specs.Command.{Reading, argument_of, command_of, is_too_long}
 use Rattle.pop_session.specs.Maildrop.{detail_answer, keys_of, maildrop_of, marked_keys, message_at, with_mark, without_marks}
 use Rattle.pop_session.specs.Dialog.{AsksAsUser, IsNext, ReadsOf, Took, on_message, asks, ends, fetch_of, give_password, done, heard, heard_in, hears, is_outcome, is_text, refused_in, settle, user_pending, holds_all, is_at_home, is_free, leave, log_in, mark, nameless, obey, read_text, retrieve, says, settle_in, tell, took, turn, undone_in, with_messages}
-use Rattle.pop_session.specs.Sound.{IsSmallDrop, IsSound, IsStage, held_in, held_of, messages_in}
+use Rattle.pop_session.specs.Sound.{IsSmallDrop, IsSoundDialog, IsStage, held_in, held_of, messages_in}
 
 -- ---- what a store holds
 
@@ -96,7 +96,7 @@ argument_short line fits =
 -- ---- one line
 
 pub record IsFine (house : House) (s : MailStore) (old : Dialog) (t : Took) : Type 0 where
-  pub sound : IsSound t.dialog
+  pub sound : IsSoundDialog t.dialog
   pub next : IsNext t.out t.dialog
   pub user : AsksAsUser t.out t.dialog
   pub reads : ReadsOf s t.out
@@ -106,7 +106,7 @@ pub record IsFine (house : House) (s : MailStore) (old : Dialog) (t : Took) : Ty
 abbrev resting : Stage → Dialog
 resting stage = record { stage = stage; awaits = Nothing }
 
-sound_at : (stage : Stage) → IsStage stage → IsSound (resting stage)
+sound_at : (stage : Stage) → IsStage stage → IsSoundDialog (resting stage)
 sound_at stage is = record { stage = is; awaits = tt; user = λ h. absurd (true≢false h); login = λ h. absurd (true≢false (sym h)) }
 
 module _ (house : House) (s : MailStore) where
@@ -243,7 +243,7 @@ module _ (house : House) (s : MailStore) where
       by_length true long = rw long (fine_says stage _ is)
       by_length false fits = fine_hears stamps sizes in_use stage (argument_of line) (command_of line) is (argument_short line fits)
 
-  pub fine_turn : (stamps : List (BoxId × ℕ)) (sizes : Body → Option ℕ) (in_use : List User) (d : Dialog) (line : SmtpLine) → IsSound d → is_free d ≡ true → IsFine house s d (turn house s stamps sizes in_use d line)
+  pub fine_turn : (stamps : List (BoxId × ℕ)) (sizes : Body → Option ℕ) (in_use : List User) (d : Dialog) (line : SmtpLine) → IsSoundDialog d → is_free d ≡ true → IsFine house s d (turn house s stamps sizes in_use d line)
   fine_turn stamps sizes in_use d line sound free = at_rest_is d.awaits free
     where
       at_rest_is : (awaits : Awaits) → is_free (record { stage = d.stage; awaits = awaits }) ≡ true
@@ -255,7 +255,7 @@ module _ (house : House) (s : MailStore) where
 -- ---- what was awaited
 
 pub record IsSettled (old : Dialog) (t : Took) : Type 0 where
-  pub sound : IsSound t.dialog
+  pub sound : IsSoundDialog t.dialog
   pub next : IsNext t.out t.dialog
   pub user : AsksAsUser t.out t.dialog
   pub home : (house : House) → is_at_home house old ≡ true → is_at_home house t.dialog ≡ true
@@ -272,10 +272,10 @@ settled_in : (awaits : Awaits) (u : User) (drop : Maildrop) (text : List ℕ) �
 settled_in awaits u drop text is = record { sound = sound_at (Transaction u drop) is; next = refl; user = tt; home = λ house h. h }
 
 -- nobody awaits anything but the outcome of a PASS before login
-nobody_waits : (name : Option (List ℕ)) (wanted : Wanted) → IsSound (record { stage = Authorization name; awaits = Text wanted }) → ⊥
+nobody_waits : (name : Option (List ℕ)) (wanted : Wanted) → IsSoundDialog (record { stage = Authorization name; awaits = Text wanted }) → ⊥
 nobody_waits name wanted sound = true≢false (sym (sound.user refl))
 
-heard_at : (stage : Stage) (wanted : Wanted) (text : Result (List ℕ) ReadFault) → IsSound (record { stage = stage; awaits = Text wanted })
+heard_at : (stage : Stage) (wanted : Wanted) (text : Result (List ℕ) ReadFault) → IsSoundDialog (record { stage = stage; awaits = Text wanted })
     → IsSettled (record { stage = stage; awaits = Text wanted }) (heard_in (Text wanted) text (record { stage = stage; awaits = Text wanted }))
 heard_at (Authorization name) wanted text sound = absurd (nobody_waits name wanted sound)
 heard_at (Transaction u drop) wanted (Ok text) sound = record {
@@ -286,19 +286,19 @@ heard_at (Transaction u drop) wanted (Ok text) sound = record {
 }
 heard_at (Transaction u drop) wanted (Err why) sound = settled_in (Text wanted) u drop _ sound.stage
 
-pub fine_heard : (d : Dialog) (text : Result (List ℕ) ReadFault) → IsSound d → is_text d.awaits ≡ true → IsSettled d (heard d text)
+pub fine_heard : (d : Dialog) (text : Result (List ℕ) ReadFault) → IsSoundDialog d → is_text d.awaits ≡ true → IsSettled d (heard d text)
 fine_heard d text sound reading = by_wait d.awaits sound reading
   where
-    by_wait : (awaits : Awaits) → IsSound (record { stage = d.stage; awaits = awaits }) → is_text awaits ≡ true → IsSettled (record { stage = d.stage; awaits = awaits }) (heard_in awaits text (record { stage = d.stage; awaits = awaits }))
+    by_wait : (awaits : Awaits) → IsSoundDialog (record { stage = d.stage; awaits = awaits }) → is_text awaits ≡ true → IsSettled (record { stage = d.stage; awaits = awaits }) (heard_in awaits text (record { stage = d.stage; awaits = awaits }))
     by_wait Nothing sound_ h = absurd (true≢false (sym h))
     by_wait (Text wanted) sound_ h = heard_at d.stage wanted text sound_
     by_wait (Outcome pending) sound_ h = absurd (true≢false (sym h))
 
 -- before login nothing is awaited but the outcome of a PASS
-no_user : (name : Option (List ℕ)) (pending : Pending) → IsSound (record { stage = Authorization name; awaits = Outcome pending }) → user_pending pending ≡ None → ⊥
+no_user : (name : Option (List ℕ)) (pending : Pending) → IsSoundDialog (record { stage = Authorization name; awaits = Outcome pending }) → user_pending pending ≡ None → ⊥
 no_user name pending sound none = true≢false (sym (sound.user refl) ∙ ap is_some none)
 
-done_at : (stage : Stage) (pending : Pending) → IsSound (record { stage = stage; awaits = Outcome pending }) → IsSettled (record { stage = stage; awaits = Outcome pending }) (done pending (resting stage))
+done_at : (stage : Stage) (pending : Pending) → IsSoundDialog (record { stage = stage; awaits = Outcome pending }) → IsSettled (record { stage = stage; awaits = Outcome pending }) (done pending (resting stage))
 done_at (Authorization name) (on.Enter u drop) sound = record { sound = sound_at (Transaction u drop) sound.awaits; next = refl; user = tt; home = λ house h. h }
 done_at (Transaction v old) (on.Enter u drop) sound = absurd (true≢false (sym (sound.login refl)))
 done_at (Authorization name) (on.Tell answer) sound = absurd (no_user name (on.Tell answer) sound refl)
@@ -312,7 +312,7 @@ done_at (Transaction u drop) (on.Mark mailbox keys) sound = record {
 }
 done_at stage on.Remove sound = settled_end (record { stage = stage; awaits = Outcome on.Remove }) Closing
 
-refused_at : (stage : Stage) (pending : Pending) (answer : Answer) → IsSound (record { stage = stage; awaits = Outcome pending }) → IsSettled (record { stage = stage; awaits = Outcome pending }) (refused_in (Outcome pending) answer (resting stage))
+refused_at : (stage : Stage) (pending : Pending) (answer : Answer) → IsSoundDialog (record { stage = stage; awaits = Outcome pending }) → IsSettled (record { stage = stage; awaits = Outcome pending }) (refused_in (Outcome pending) answer (resting stage))
 refused_at (Authorization name) (on.Enter u drop) answer sound = settled_out (record { stage = Authorization name; awaits = Outcome (on.Enter u drop) }) None _ tt
 refused_at (Transaction v old) (on.Enter u drop) answer sound = absurd (true≢false (sym (sound.login refl)))
 refused_at (Authorization name) (on.Tell text) answer sound = absurd (no_user name (on.Tell text) sound refl)
@@ -320,20 +320,20 @@ refused_at (Transaction u drop) (on.Tell text) answer sound = settled_in (Outcom
 refused_at stage (on.Mark mailbox keys) answer sound = settled_end (record { stage = stage; awaits = Outcome (on.Mark mailbox keys) }) answer
 refused_at stage on.Remove answer sound = settled_end (record { stage = stage; awaits = Outcome on.Remove }) answer
 
-undone_at : (stage : Stage) (pending : Pending) (fault : SubmitFault) → IsSound (record { stage = stage; awaits = Outcome pending }) → IsSettled (record { stage = stage; awaits = Outcome pending }) (undone_in (Outcome pending) fault (resting stage))
+undone_at : (stage : Stage) (pending : Pending) (fault : SubmitFault) → IsSoundDialog (record { stage = stage; awaits = Outcome pending }) → IsSettled (record { stage = stage; awaits = Outcome pending }) (undone_in (Outcome pending) fault (resting stage))
 undone_at stage pending (WasRefused why) sound = refused_at stage pending _ sound
 undone_at stage pending Disk sound = settled_end (record { stage = stage; awaits = Outcome pending }) DiskFault
 undone_at stage pending Closed sound = settled_end (record { stage = stage; awaits = Outcome pending }) DiskFault
 
-settled_at : (stage : Stage) (pending : Pending) (outcome : Result Item SubmitFault) → IsSound (record { stage = stage; awaits = Outcome pending })
+settled_at : (stage : Stage) (pending : Pending) (outcome : Result Item SubmitFault) → IsSoundDialog (record { stage = stage; awaits = Outcome pending })
     → IsSettled (record { stage = stage; awaits = Outcome pending }) (settle_in (Outcome pending) outcome (resting stage))
 settled_at stage pending (Ok item) sound = done_at stage pending sound
 settled_at stage pending (Err fault) sound = undone_at stage pending fault sound
 
-pub fine_settled : (d : Dialog) (outcome : Result Item SubmitFault) → IsSound d → is_outcome d.awaits ≡ true → IsSettled d (settle d outcome)
+pub fine_settled : (d : Dialog) (outcome : Result Item SubmitFault) → IsSoundDialog d → is_outcome d.awaits ≡ true → IsSettled d (settle d outcome)
 fine_settled d outcome sound due = by_wait d.awaits sound due
   where
-    by_wait : (awaits : Awaits) → IsSound (record { stage = d.stage; awaits = awaits }) → is_outcome awaits ≡ true → IsSettled (record { stage = d.stage; awaits = awaits }) (settle_in awaits outcome (resting d.stage))
+    by_wait : (awaits : Awaits) → IsSoundDialog (record { stage = d.stage; awaits = awaits }) → is_outcome awaits ≡ true → IsSettled (record { stage = d.stage; awaits = awaits }) (settle_in awaits outcome (resting d.stage))
     by_wait Nothing sound_ h = absurd (true≢false (sym h))
     by_wait (Text wanted) sound_ h = absurd (true≢false (sym h))
     by_wait (Outcome pending) sound_ h = settled_at d.stage pending outcome sound_

@@ -36,7 +36,7 @@ is_before_login (Authorization name) = true
 is_before_login (Transaction u drop) = false
 
 -- what is kept is bounded; something is awaited for a user alone, and the outcome of a PASS where nobody is logged in
-pub record IsSound (d : Dialog) : Type 0 where
+pub record IsSoundDialog (d : Dialog) : Type 0 where
   pub stage : IsStage d.stage
   pub awaits : IsAwaited d.awaits
   pub user : is_free d ≡ false → is_some (user_of d) ≡ true

@@ -34,13 +34,13 @@ impl Model for PopSession {
     ghost use Rattle.std.specs.Prelude.{◌≡◌};
     ghost use Rattle.pop_session.specs.declared.dialog.Dialog.{Dialog as TheDialog};
     ghost use Rattle.pop_session.specs.declared.session.PopSession.TheInside.{Inside};
-    ghost use Rattle.pop_session.specs.Sound.{IsSound};
+    ghost use Rattle.pop_session.specs.Sound.{IsSoundDialog};
 
     ghost Value = { TheDialog };
 
     ghost view = { λ s. s.dialog };
 
-    ghost invariant = { λ s. IsSound s.dialog × ((other : Inside) → s ≡ record other { dialog = s.dialog }) };
+    ghost invariant = { λ s. IsSoundDialog s.dialog × ((other : Inside) → s ≡ record other { dialog = s.dialog }) };
 }
 
 impl PopSession {

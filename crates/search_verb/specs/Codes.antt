@@ -5,12 +5,12 @@ use Rattle.std.specs.Coded.{Coded, code_by, coded×, coded_ℕ, coded_ℤ, coded
 use Rattle.search_verb.specs.declared.keys.SearchRange.{SearchRange}
 use Rattle.search_verb.specs.Asked.{Asked, Every, Never, Answered, Deleted, Draft, Flagged, Seen, Places, Uids, Before, On, Since, Larger, Smaller, Field, Body, Text, Not, Or, And}
 
-abbrev pub Ends : Type 0
-Ends = Option ℕ × Option ℕ
+abbrev pub RangeEnds : Type 0
+RangeEnds = Option ℕ × Option ℕ
 
 -- a number for what is made, a day, a size, two strings and ranges
 abbrev pub Step : Type 0
-Step = ℕ × (ℤ × (ℕ × (List ℕ × (List ℕ × List Ends))))
+Step = ℕ × (ℤ × (ℕ × (List ℕ × (List ℕ × List RangeEnds))))
 
 abbrev pub plain : ℕ → Step
 plain n = (n, (pos 0, (0, ([], ([], [])))))
@@ -24,11 +24,11 @@ of_size n size = (n, (pos 0, (size, ([], ([], [])))))
 abbrev pub of_strings : ℕ → List ℕ → List ℕ → Step
 of_strings n first second = (n, (pos 0, (0, (first, (second, [])))))
 
-abbrev pub ends_of : List SearchRange → List Ends
+abbrev pub ends_of : List SearchRange → List RangeEnds
 ends_of [] = []
 ends_of (range ∷ ranges) = (range.from, range.to) ∷ ends_of ranges
 
-abbrev pub ranges_of : List Ends → List SearchRange
+abbrev pub ranges_of : List RangeEnds → List SearchRange
 ranges_of [] = []
 ranges_of (ends ∷ rest) = record { from = ends.0; to = ends.1 } ∷ ranges_of rest
 

@@ -10,8 +10,5 @@ pub fn insert_within<T: Drop>(list: &mut Vec<T>, place: usize, element: T)
     ensures len { vec_len list.new ≡ vec_len list.old + 1 }
     ensures capacity { vec_capacity list.new ≡ vec_capacity list.old }
 {
-    match list.insert(place, element) {
-        Ok(()) => {}
-        Err(_) => unreachable!(),
-    }
+    let _room_is_there = list.insert(place, element);
 }

@@ -13,7 +13,7 @@ use Rattle.smtp_lines.specs.Parts.{is_short, is_space, is_spelled, is_visible, t
 use Rattle.smtp_lines.specs.Word.{word_of}
 use Rattle.smtp_lines.specs.Path.{is_recipient, outside, path_at, path_of}
 use Rattle.smtp_lines.specs.Command.{Reading, alone, command_of, greeting, if_recipient, if_word, is_client, is_too_long, mail_of, rcpt_of, recipient, refused_tail, spoken, unless, vrfy_of, with_path, words_of}
-use Rattle.smtp_lines.specs.Grammar.{Begins, HasParameter, HasPath, IsRead, IsReadShort, IsReading, Names, Speaks, Spells, is_done, name_of}
+use Rattle.smtp_lines.specs.Grammar.{BeginsWithWord, HasParameter, HasPath, IsRead, IsReadShort, IsReading, Names, Speaks, Spells, is_done, name_of}
 use Rattle.smtp_lines.proofs.Parting.{both, and_true, apart}
 use Rattle.smtp_lines.proofs.Wording.{speaks_read, speaks_word, trim_is, trim_of, word_speaks, word_spelled}
 use Rattle.smtp_lines.proofs.Routing.{path_found, path_sound}
@@ -22,19 +22,19 @@ use Rattle.smtp_lines.proofs.Recipients.{NamesCommand, named, names_recipient}
 -- what a reading says of the bytes: no other command is looked at
 abbrev Sound : List ℕ → Reading → Type 0
 Sound core (Ok command) = Spells command core
-Sound core (Err Unknown) = (done : Bool) → Begins done core → ⊥
-Sound core (Err NotDone) = Begins false core
-Sound core (Err Argument) = Begins true core
+Sound core (Err Unknown) = (done : Bool) → BeginsWithWord done core → ⊥
+Sound core (Err NotDone) = BeginsWithWord false core
+Sound core (Err Argument) = BeginsWithWord true core
 Sound core (Err Parameter) = HasParameter core
 Sound core (Err Long) = ⊥
 Sound core (Err NoMemory) = ⊥
 
-begins : (w : Word) (argument core : List ℕ) → Speaks (name_of w) argument core → Begins (is_done w) core
+begins : (w : Word) (argument core : List ℕ) → Speaks (name_of w) argument core → BeginsWithWord (is_done w) core
 begins w argument core s = record { known = w; argument = argument; speaks = s; is = refl }
 
 -- what follows a path
 module _ (core : List ℕ) (command : SmtpCommand) (P : List ℕ → Type 0) (spells : P [] → Spells command core)
-    (more : (tail : List ℕ) → P (32 ∷ tail) → HasParameter core) (known : Begins true core) where
+    (more : (tail : List ℕ) → P (32 ∷ tail) → HasParameter core) (known : BeginsWithWord true core) where
   tail_at : (b : ℕ) (tail : List ℕ) (t : Bool) → (b == 32) ≡ t → P (b ∷ tail) → Sound core (unless (if t then Some Parameter else Some Argument) command)
   tail_at b tail true e p = more tail (subst (λ (c : ℕ). P (c ∷ tail)) (eqb-true b 32 e) p)
   tail_at b tail false e p = known
@@ -86,13 +86,13 @@ module _ (core argument : List ℕ) (s : Speaks (codes "RCPT") argument core) wh
   rcpt_sound =
       let rest = path_at (codes "TO:") argument in rcpt_with (path_of rest) (outside rest) (path_sound (codes "TO:") argument)
 
-alone_sound : (core : List ℕ) (command : SmtpCommand) (argument : List ℕ) → (argument ≡ [] → Spells command core) → Begins true core → Sound core (alone command argument)
+alone_sound : (core : List ℕ) (command : SmtpCommand) (argument : List ℕ) → (argument ≡ [] → Spells command core) → BeginsWithWord true core → Sound core (alone command argument)
 alone_sound core command [] f known = f refl
 alone_sound core command (b ∷ argument) f known = known
 
 -- a name of a client, by its test
 greets : (core : List ℕ) (command : SmtpCommand) (client : List ℕ) (t : Bool) → is_client client ≡ t
-    → (is_short client ≡ true → list_all is_visible client ≡ true → Spells command core) → Begins true core → Sound core (if t then Ok command else Err Argument)
+    → (is_short client ≡ true → list_all is_visible client ≡ true → Spells command core) → BeginsWithWord true core → Sound core (if t then Ok command else Err Argument)
 greets core command client true e f known = let h = both (is_short client) (list_all is_visible client) e in f h.0 h.1
 greets core command client false e f known = known
 
@@ -216,18 +216,18 @@ parameter_read core (inr r) =
     speaks_read word.Rcpt r.spells.argument core r.spells.speaks ∙ spoken_rcpt r.spells.argument
     ∙ rcpt_read r.spells.argument r.spells.path (32 ∷ r.more) r.local r.domain r.spells.path_ r.spells.names
 
-not_done_read : (core : List ℕ) → Begins false core → words_of core ≡ Err NotDone
+not_done_read : (core : List ℕ) → BeginsWithWord false core → words_of core ≡ Err NotDone
 not_done_read core b = speaks_read b.known b.argument core b.speaks ∙ spoken_not_done b.known b.argument b.is
 
 -- a line has one word
-one_word : (core : List ℕ) → Begins true core → Begins false core → ⊥
+one_word : (core : List ℕ) → BeginsWithWord true core → BeginsWithWord false core → ⊥
 one_word core b c =
     let same : Some b.known ≡ Some c.known = sym (speaks_word b.known b.argument core b.speaks) ∙ speaks_word c.known c.argument core c.speaks in
     let known : b.known ≡ c.known = cc in
     apart (is_done b.known) b.is (ap is_done known ∙ c.is)
 
 -- a command begins with a word that is done
-command_begins : (command : SmtpCommand) (core : List ℕ) → Spells command core → Begins true core
+command_begins : (command : SmtpCommand) (core : List ℕ) → Spells command core → BeginsWithWord true core
 command_begins (Helo client) core s = begins word.Helo client core s.speaks
 command_begins (Ehlo client) core s = begins word.Ehlo client core s.speaks
 command_begins (Mail path) core s = begins word.Mail s.argument core s.speaks
@@ -238,7 +238,7 @@ command_begins (Noop rest) core s = begins word.Noop rest core s
 command_begins (Vrfy what) core s = begins word.Vrfy what core s.0
 command_begins Quit core s = begins word.Quit [] core s
 
-parameter_begins : (core : List ℕ) → HasParameter core → Begins true core
+parameter_begins : (core : List ℕ) → HasParameter core → BeginsWithWord true core
 parameter_begins core (inl m) = begins word.Mail m.spells.argument core m.spells.speaks
 parameter_begins core (inr r) = begins word.Rcpt r.spells.argument core r.spells.speaks
 
@@ -261,7 +261,7 @@ read_by core (Err Argument) e s = (
 is_read : (core : List ℕ) → IsRead core (words_of core)
 is_read core = read_by core (words_of core) refl (words_sound core)
 
-unknown_by : (core : List ℕ) (r : Reading) → Sound core r → ((done : Bool) → ¬ (Begins done core)) → r ≡ Err Unknown
+unknown_by : (core : List ℕ) (r : Reading) → Sound core r → ((done : Bool) → ¬ (BeginsWithWord done core)) → r ≡ Err Unknown
 unknown_by core (Ok command) s n = absurd (n true (command_begins command core s))
 unknown_by core (Err Unknown) s n = refl
 unknown_by core (Err NotDone) s n = absurd (n false s)

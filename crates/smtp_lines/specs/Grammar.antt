@@ -158,7 +158,7 @@ is_done word.Vrfy = true
 is_done word.Quit = true
 
 -- the bytes begin with a word that is done, or not
-pub record Begins (done : Bool) (core : List ℕ) : Type 0 where
+pub record BeginsWithWord (done : Bool) (core : List ℕ) : Type 0 where
   pub known : Word
   pub argument : List ℕ
   pub speaks : Speaks (name_of known) argument core
@@ -167,9 +167,9 @@ pub record Begins (done : Bool) (core : List ℕ) : Type 0 where
 -- A line without the spaces at its end is a command, or is refused for this cause.
 abbrev pub IsRead : List ℕ → Reading → Type 0
 IsRead core (Ok command) = Spells command core
-IsRead core (Err Unknown) = (done : Bool) → ¬ (Begins done core)
-IsRead core (Err NotDone) = Begins false core
-IsRead core (Err Argument) = Begins true core × (((command : SmtpCommand) → ¬ (Spells command core)) × ¬ (HasParameter core))
+IsRead core (Err Unknown) = (done : Bool) → ¬ (BeginsWithWord done core)
+IsRead core (Err NotDone) = BeginsWithWord false core
+IsRead core (Err Argument) = BeginsWithWord true core × (((command : SmtpCommand) → ¬ (Spells command core)) × ¬ (HasParameter core))
 IsRead core (Err Parameter) = HasParameter core
 IsRead core (Err Long) = ⊥
 IsRead core (Err NoMemory) = ⊥

@@ -6,7 +6,7 @@ use Rattle.std.specs.Cmp.Lexicographic.{slice_cmp}
 use Rattle.std.specs.BTreeSet.{BTreeSet, contains}
 use Rattle.std.proofs.lemmas.Map.Text.{is_eq-slice_cmp}
 use Rattle.std.proofs.lemmas.List.Folds.{list_any-append}
-use Rattle.smtp_session.specs.Held.{Holds}
+use Rattle.smtp_session.specs.Held.{HoldsNames}
 
 -- one more at the end
 either : (a b : Bool) → cond a true b ≡ (b || (a || false))
@@ -16,9 +16,9 @@ either false true = refl
 either false false = refl
 
 -- a name more in both
-pub holds_more : (old new : BTreeSet (List ℕ)) (names : List (List ℕ)) (k : List ℕ) → Holds old names
+pub holds_more : (old new : BTreeSet (List ℕ)) (names : List (List ℕ)) (k : List ℕ) → HoldsNames old names
     → ((q : List ℕ) → contains (slice_cmp nat_cmp) new q ≡ cond (is_eq (slice_cmp nat_cmp k q)) true (contains (slice_cmp nat_cmp) old q))
-    → Holds new (names ++ k ∷ [])
+    → HoldsNames new (names ++ k ∷ [])
 holds_more old new names k h u name =
     rw (u name, h name, is_eq-slice_cmp k name, list_any-append (λ n. bytes_eq n name) names (k ∷ []))
     (either (bytes_eq k name) (list_any (λ n. bytes_eq n name) names))

@@ -9,6 +9,6 @@ use Rattle.smtp_session.specs.declared.dialog.Transaction.TheVariants.{Idle, Due
 use Rattle.smtp_session.specs.Answer.{answer_text}
 
 -- a text ends with its body, or with none where it was too large: what is said or asked, and the transaction behind it
-abbrev pub Ends : List ℕ → List ℕ → List (List ℕ) → Option (List ℕ) → SmtpOut → Transaction → Type 0
-Ends host path to None out new = (out ≡ Say (answer_text host TextTooLarge)) × (new ≡ Idle)
-Ends host path to (Some body) out new = (out ≡ Asks (Deliver path to body)) × (new ≡ Due host)
+abbrev pub EndsText : List ℕ → List ℕ → List (List ℕ) → Option (List ℕ) → SmtpOut → Transaction → Type 0
+EndsText host path to None out new = (out ≡ Say (answer_text host TextTooLarge)) × (new ≡ Idle)
+EndsText host path to (Some body) out new = (out ≡ Asks (Deliver path to body)) × (new ≡ Due host)

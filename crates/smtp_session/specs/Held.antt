@@ -6,5 +6,5 @@ use Rattle.std.specs.Cmp.Lexicographic.{slice_cmp}
 use Rattle.std.specs.BTreeSet.{BTreeSet, contains}
 
 -- the set has the names of the list, and no other
-abbrev pub Holds : BTreeSet (List ℕ) → List (List ℕ) → Type 0
-Holds held names = (name : List ℕ) → contains (slice_cmp nat_cmp) held name ≡ list_any (λ n. bytes_eq n name) names
+abbrev pub HoldsNames : BTreeSet (List ℕ) → List (List ℕ) → Type 0
+HoldsNames held names = (name : List ℕ) → contains (slice_cmp nat_cmp) held name ≡ list_any (λ n. bytes_eq n name) names

@@ -1,6 +1,10 @@
 //! How a transaction ends.
+//!
+//! The host's name for `421 HOST disk fault` is kept from the line that ended the text, since `done` is given no house.
+//!
+//! A refusal that a delivery cannot have would be told as want of memory; `done` has the condition that there is none.
 ghost use Rattle.std.specs.Prelude.{◌≡◌, IfOk, OnErr};
-ghost use Rattle.smtp_session.specs.Ending.{Ends};
+ghost use Rattle.smtp_session.specs.Ending.{EndsText};
 ghost use Rattle.smtp_session.specs.Dialog.{host_due as host_of, fault_said, outcome_said, settle, turns};
 
 use crate::answer::{Answer, SmtpOut, answer_to_delivery, say, write_answer};
@@ -19,7 +23,7 @@ pub(crate) fn end_transaction(
     to: &mut Recipients,
     body: Option<Text>,
 ) -> Result<(SmtpOut, Transaction), NoMemory>
-    ensures ok { IfOk result (λ ended. Ends host.now path.old to.old body ended.0 ended.1) }
+    ensures ok { IfOk result (λ ended. EndsText host.now path.old to.old body ended.0 ended.1) }
     ensures path { OnErr result (path.new ≡ path.old) }
     ensures to { OnErr result (to.new ≡ to.old) }
 {

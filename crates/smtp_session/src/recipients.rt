@@ -1,4 +1,6 @@
 //! The recipients of a transaction.
+//!
+//! Recipients of two of the house's domains with one local part are one recipient, since a delivery holds local parts alone.
 ghost use Rattle.std.specs.Prelude.{◌≡◌, ◌≤◌, ◌*◌, ◌++◌, [], ◌∷◌, length, bytes_eq, OnOk, OnErr};
 ghost use Rattle.std.specs.List.{list_any};
 ghost use Rattle.std.specs.Ordering.{nat_cmp};
@@ -21,7 +23,7 @@ pub struct Recipients {
 impl Model for Recipients {
     ghost use Rattle.std.specs.Prelude.{List, ℕ, ◌≡◌, ◌≤◌, length};
     ghost use Rattle.std.specs.BTreeSet.{btree_set_len};
-    ghost use Rattle.smtp_session.specs.Held.{Holds};
+    ghost use Rattle.smtp_session.specs.Held.{HoldsNames};
 
     ghost Value = { List (List ℕ) };
 
@@ -29,7 +31,7 @@ impl Model for Recipients {
 
     ghost view = { λ r. r.names.items };
 
-    ghost invariant = { λ r. Holds r.held r.names.items × (btree_set_len r.held ≤ length r.names.items) ×
+    ghost invariant = { λ r. HoldsNames r.held r.names.items × (btree_set_len r.held ≤ length r.names.items) ×
         ((other : Inside) → r ≡ record other { names = r.names; held = r.held }) };
 }
 

@@ -1,4 +1,10 @@
 //! What a store in use begins with.
+//!
+//! What is kept of a store in use, and what performing an item makes of it, have a crate of their own, above paradox, whose
+//! report it holds. All crates above speak of the same record.
+//!
+//! A base is made anew for a cycle that begins before every snapshot. Of the opening store only the house and the configuration
+//! are held: a second store held would cost the memory of its rows for good. Of a past that was cut off the rows are held.
 ghost use Rattle.std.specs.Prelude.{◌≡◌, [], IfOk, IsTrue};
 ghost use Rattle.std.specs.List.{list_all};
 ghost use Rattle.verb_core.specs.Store.{IsValid, is_house, is_known};
@@ -8,11 +14,11 @@ ghost use Rattle.store_kept.specs.Founding.{has_text_of};
 ghost use Rattle.store_kept.specs.Kept.{opening_origin};
 ghost use Rattle.store_kept.specs.Naming.{texts_come};
 
-use crate::texts::{BaseTexts, PastText};
+use crate::texts::BaseTexts;
 use box_store::{RowsRefused, Store, rows_make_valid_stores};
 use std::alloc::Global;
 use std::marker::Model;
-use undo_base::{Copies, NoMemory};
+use undo_base::{Copies, NoMemory, PastText};
 use verb_core::{Body, Conf, House, Rows};
 
 /// The store that was left of a past that was cut off, as its configuration and its rows, with the texts of its messages, and the

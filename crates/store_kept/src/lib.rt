@@ -17,4 +17,4 @@ mod texts;
 pub use base::{Base, Past};
 pub use paradox::Reports;
 pub use reports::{put_report, report_of};
-pub use texts::{BaseTexts, PastText};
+pub use texts::BaseTexts;

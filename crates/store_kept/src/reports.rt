@@ -1,5 +1,5 @@
 //! The reports of cycles, by the keys of their requests.
-ghost use Rattle.std.specs.Prelude.{◌≡◌, ◌<◌, ◌≤◌, filter, length, option_copied, take_while, vec_capacity, vec_len, IsTrue};
+ghost use Rattle.std.specs.Prelude.{◌≡◌, ◌<◌, ◌≤◌, filter, insert, length, option_copied, take_while, vec_capacity, vec_len, IsTrue};
 ghost use Rattle.store_kept.specs.Kept.{is_by_key, key_cmp, report_of as report_in, with_report};
 ghost use Rattle.store_kept.specs.Places.{has_other_key, stands_before};
 
@@ -66,6 +66,15 @@ fn drop_report(reports: &mut Vec<Row>, key: &Name)
     reports.retain(|row| is_other(row, key));
 }
 
+/// Puts an element at a place, where there is room for one.
+fn insert_within<T: Drop>(list: &mut Vec<T>, place: usize, element: T)
+    requires room { vec_len list.old < vec_capacity list.old }
+    requires place { place ≤ vec_len list.old }
+    ensures { list.new.items ≡ insert list.old.items place element }
+{
+    let _room_is_there = list.insert(place, element);
+}
+
 /// Puts a report in the place of its key, where there is room for one. It takes no memory.
 pub fn put_report(reports: &mut Vec<(Name, Report)>, key: Name, report: Report)
     requires rising { IsTrue (is_by_key reports.old.items) }
@@ -74,8 +83,5 @@ pub fn put_report(reports: &mut Vec<(Name, Report)>, key: Name, report: Report)
 {
     drop_report(reports, &key);
     let place = place_for(reports.as_slice(), &key);
-    match reports.insert(place, (key, report)) {
-        Ok(()) => {}
-        Err(_) => unreachable!(),
-    }
+    insert_within(reports, place, (key, report));
 }

@@ -10,45 +10,8 @@ ghost use Rattle.store_kept.specs.Naming.{ComesIn, IsRowOf, all_come, is_named, 
 use std::alloc::Global;
 use std::cmp::Ordering;
 use std::marker::Model;
-use stored_items::Recalled;
-use undo_base::{NoMemory, Text};
+use undo_base::{NoMemory, PastText, Text};
 use verb_core::{Body, BoxId, Entry, Mailbox};
-
-/// A text that was once in memory, and its length in bytes: it is read where it lies.
-#[derive(Drop)]
-pub struct PastText {
-    size: u32,
-    text: Recalled<Text>,
-}
-
-impl Model for PastText {
-    ghost use Rattle.std.specs.Prelude.{◌≡◌, ℕ, List, length};
-
-    ghost Value = { List ℕ };
-
-    ghost view = { λ p. p.text.value };
-
-    ghost invariant = { λ p. p.size ≡ length p.text.value };
-}
-
-impl PastText {
-    /// What a reference shows.
-    fn of(text: &Text) -> PastText
-        ensures { result ≡ text.now }
-    {
-        PastText {
-            size: text.bytes().len() as u32,
-            text: Recalled::of(text),
-        }
-    }
-
-    /// How many bytes it had.
-    pub fn len(&self) -> u32
-        ensures { result ≡ length self.now }
-    {
-        self.size
-    }
-}
 
 /// A body, and its text once that has come.
 type Row = (Body, Option<PastText>);
@@ -105,10 +68,8 @@ fn insert_row(rows: &mut Vec<Row>, place: usize, row: Row) -> Result<(), NoMemor
     ensures there { OnOk result (rows.new.items ≡ insert rows.old.items place row) }
     ensures same { OnErr result (rows.new.items ≡ rows.old.items) }
 {
-    match rows.insert(place, row) {
-        Ok(()) => Ok(()),
-        Err(_) => Err(NoMemory),
-    }
+    rows.insert(place, row)?;
+    Ok(())
 }
 
 /// Puts a row in the place of another.
@@ -206,8 +167,17 @@ impl BaseTexts {
         ensures texts { texts_come self.new ≡ with_base_text body text.now (texts_come self.old) }
         ensures names { (other : TheBody) → is_named self.new other ≡ is_named self.old other }
     {
+        self.put_lying(body, PastText::of(text));
+    }
+
+    /// Takes a text that lies elsewhere, of a body that is named. It takes no memory.
+    pub fn put_lying(&mut self, body: Body, text: PastText)
+        requires { IsTrue (is_named self.old body) }
+        ensures texts { texts_come self.new ≡ with_base_text body text (texts_come self.old) }
+        ensures names { (other : TheBody) → is_named self.new other ≡ is_named self.old other }
+    {
         if let Ok(place) = self.find(body) {
-            put_row(&mut self.rows, place, (body, Some(PastText::of(text))));
+            put_row(&mut self.rows, place, (body, Some(text)));
         }
     }
 

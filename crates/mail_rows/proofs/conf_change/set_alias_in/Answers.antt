@@ -12,7 +12,7 @@ returns-then-is_here c =
 
 pub returns-else-is_here : goal.returns-else-is_here
 returns-else-is_here c =
-    c.insert_there.ensures
+    c.insert_within.ensures.items
     ∙ alias_added c.args.alias c.args.list.now.items c.alias_place-place.result
     (c.alias_place-place.ensures ∙ ap (λ (all : List Alias). length (take_while (stands_before c.args.alias.local) all)) c.as_slice.ensures.value)
     (ap (stands_here c.args.alias.local c.alias_place-place.result) (sym c.as_slice-2.ensures.value) ∙ sym c.is_here.ensures ∙ c.if-is_here.false)

@@ -12,7 +12,7 @@ returns-then-place-len c =
 
 pub returns-else-place-len : goal.returns-else-place-len
 returns-else-place-len c =
-    c.insert_there.ensures
+    c.insert_within.ensures.items
     ∙ filter_added c.args.filter c.args.list.now.items c.filter_place-place.result
     (c.filter_place-place.ensures ∙ ap (λ (all : List Filter). length (take_while (has_other_id c.args.filter.id) all)) c.as_slice.ensures.value)
     (omega (arith, c.if-place-len.false, c.len.ensures, c.args.list.now.ok.0))

@@ -1,13 +1,13 @@
 use Rattle.std.proofs.Common.{◌≡◌, subst, sym, true, refl}
 use Rattle.pop_session.specs.declared.dialog.Dialog.{Dialog}
 use Rattle.pop_session.specs.Dialog.{AsksAsUser, IsNext, is_at_home, is_due, settle}
-use Rattle.pop_session.specs.Sound.{IsSound}
+use Rattle.pop_session.specs.Sound.{IsSoundDialog}
 use Rattle.pop_session.proofs.Turns.{dialog_after, fine_settled, out_after}
 use Rattle.pop_session.proofs.session.PopSession.done.Goals as goal
 
 pub invariant_of-self : goal.invariant_of-self
 invariant_of-self c = (
-  dialog_after c.settle.result (settle c.self.inside.dialog c.args.outcome.now) c.self.inside.dialog c.settle.new.dialog c.settle.ensures.ok c.settle.ensures.err IsSound
+  dialog_after c.settle.result (settle c.self.inside.dialog c.args.outcome.now) c.self.inside.dialog c.settle.new.dialog c.settle.ensures.ok c.settle.ensures.err IsSoundDialog
       (fine_settled c.self.inside.dialog c.args.outcome.now c.self.invariant.0 (subst (λ (d : Dialog). is_due d ≡ true) (sym c.self.view_is) c.requires)).sound c.self.invariant.0,
   λ other. refl,
 )

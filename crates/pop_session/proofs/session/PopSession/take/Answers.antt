@@ -2,13 +2,13 @@ use Rattle.std.proofs.Common.{◌≡◌, subst, sym, true, refl}
 use Rattle.shelf.specs.Notes.{size_of}
 use Rattle.pop_session.specs.declared.dialog.Dialog.{Dialog}
 use Rattle.pop_session.specs.Dialog.{AsksAsUser, IsNext, ReadsOf, is_at_home, is_free, turn}
-use Rattle.pop_session.specs.Sound.{IsSound}
+use Rattle.pop_session.specs.Sound.{IsSoundDialog}
 use Rattle.pop_session.proofs.Turns.{dialog_after, fine_turn, out_after}
 use Rattle.pop_session.proofs.session.PopSession.take.Goals as goal
 
 pub invariant_of-self : goal.invariant_of-self
 invariant_of-self c = (
-  dialog_after c.take_line.result (turn c.args.house.now c.args.store.now.store c.args.stamps.now (size_of c.args.sizes.now.notes) c.args.in_use.now c.self.inside.dialog c.args.line.now) c.self.inside.dialog c.take_line.new.dialog c.take_line.ensures.ok c.take_line.ensures.err IsSound
+  dialog_after c.take_line.result (turn c.args.house.now c.args.store.now.store c.args.stamps.now (size_of c.args.sizes.now.notes) c.args.in_use.now c.self.inside.dialog c.args.line.now) c.self.inside.dialog c.take_line.new.dialog c.take_line.ensures.ok c.take_line.ensures.err IsSoundDialog
       (fine_turn c.args.house.now c.args.store.now.store c.args.stamps.now (size_of c.args.sizes.now.notes) c.args.in_use.now c.self.inside.dialog c.args.line.now c.self.invariant.0 (subst (λ (d : Dialog). is_free d ≡ true) (sym c.self.view_is) c.requires.free)).sound c.self.invariant.0,
   λ other. refl,
 )
