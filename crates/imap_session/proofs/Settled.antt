@@ -15,17 +15,17 @@ use Rattle.imap_session.specs.declared.dialog.Selected.{Selected}
 use Rattle.imap_session.specs.declared.out.ImapOut.{ImapOut}
 use Rattle.imap_session.specs.declared.words.Word.{Word}
 use Rattle.imap_session.specs.Dialog.{AsksAsUser, IsNext, Took, done, follow, is_lost, is_free, is_outcome, is_rest, settle_in, settle_pending, took, undone}
-use Rattle.imap_session.specs.Sound.{IsSound}
+use Rattle.imap_session.specs.Sound.{IsSoundDialog}
 use Rattle.imap_view.proofs.Mail.{view_in_order}
 
 -- what holds of what comes of an awaited answer
 pub record IsSettled (old : Dialog) (t : Took) : Type 0 where
-  pub sound : IsSound t.dialog
+  pub sound : IsSoundDialog t.dialog
   pub next : IsNext t.out t.dialog
   pub user : AsksAsUser t.out t.dialog
   pub stays : t.dialog.user ≡ old.user
 
-at_rest_of : (d : Dialog) → IsSound d → IsSound (record d { awaits = Nothing })
+at_rest_of : (d : Dialog) → IsSoundDialog d → IsSoundDialog (record d { awaits = Nothing })
 at_rest_of d sound = record { view = sound.view; selected = sound.selected; awaits = λ h. absurd (true≢false h) }
 
 waits_for_outcome : (awaits : Awaits) → is_outcome awaits ≡ true → is_rest awaits ≡ false
@@ -33,7 +33,7 @@ waits_for_outcome Nothing due = sym due
 waits_for_outcome (Texts tag f) due = refl
 waits_for_outcome (Outcome tag pending) due = refl
 
-module _ (s : MailStore) (valid : IsValid s) (d : Dialog) (sound : IsSound d) (user : is_some d.user ≡ true) where
+module _ (s : MailStore) (valid : IsValid s) (d : Dialog) (sound : IsSoundDialog d) (user : is_some d.user ≡ true) where
   fine_follow : (tag : List ℕ) (w : Word) (selected : Option Selected) → is_free d ≡ true → IsSettled d (follow s tag w d selected)
   fine_follow tag w None free = record { sound = sound; next = free; user = tt; stays = refl }
   fine_follow tag w (Some selected) free = record {
@@ -43,7 +43,7 @@ module _ (s : MailStore) (valid : IsValid s) (d : Dialog) (sound : IsSound d) (u
     stays = refl;
   }
 
-  kept_sound : (b : Bool) → IsSound (record d { selected = if b then None else d.selected })
+  kept_sound : (b : Bool) → IsSoundDialog (record d { selected = if b then None else d.selected })
   kept_sound true = record { view = tt; selected = λ h. user; awaits = sound.awaits }
   kept_sound false = record { view = sound.view; selected = λ h. user; awaits = sound.awaits }
 
@@ -97,7 +97,7 @@ module _ (s : MailStore) (valid : IsValid s) (d : Dialog) (sound : IsSound d) (u
   fine_pending stamps tag pending (Ok item) free = fine_done stamps tag item pending free
   fine_pending stamps tag pending (Err fault) free = fine_undone tag pending fault free
 
-settled_fine : (s : MailStore) (stamps : List (BoxId × ℕ)) (d : Dialog) (awaits : Awaits) (outcome : Result Item SubmitFault) → IsValid s → IsSound d → is_outcome awaits ≡ true → is_some d.user ≡ true
+settled_fine : (s : MailStore) (stamps : List (BoxId × ℕ)) (d : Dialog) (awaits : Awaits) (outcome : Result Item SubmitFault) → IsValid s → IsSoundDialog d → is_outcome awaits ≡ true → is_some d.user ≡ true
     → IsSettled d (settle_in s stamps d awaits outcome)
 settled_fine s stamps d Nothing outcome valid sound due user = absurd (true≢false (sym due))
 settled_fine s stamps d (Texts tag f) outcome valid sound due user = absurd (true≢false (sym due))
@@ -106,7 +106,7 @@ settled_fine s stamps d (Outcome tag pending) outcome valid sound due user =
     let fine : IsSettled rest (settle_pending s stamps tag rest pending outcome) = fine_pending s valid rest (at_rest_of d sound) user stamps tag pending outcome refl in
     record { sound = fine.sound; next = fine.next; user = fine.user; stays = fine.stays }
 
-pub fine_settled : (s : MailStore) (stamps : List (BoxId × ℕ)) (d : Dialog) (outcome : Result Item SubmitFault) → IsValid s → IsSound d → is_outcome d.awaits ≡ true → IsSettled d (settle_in s stamps d d.awaits outcome)
+pub fine_settled : (s : MailStore) (stamps : List (BoxId × ℕ)) (d : Dialog) (outcome : Result Item SubmitFault) → IsValid s → IsSoundDialog d → is_outcome d.awaits ≡ true → IsSettled d (settle_in s stamps d d.awaits outcome)
 fine_settled s stamps d outcome valid sound due = settled_fine s stamps d d.awaits outcome valid sound due (sound.awaits (waits_for_outcome d.awaits due))
 
 -- ---- what holds of the dialog after a call: it is the one of the definition, or the one that want of memory leaves

@@ -33,7 +33,7 @@ use Rattle.imap_session.specs.Searching.{all_places, is_known_charset, search_bo
 use Rattle.search_verb.specs.Asked.{Asked}
 use Rattle.imap_view.specs.Named.{places_named}
 use Rattle.imap_session.specs.Dialog.{AsksAsUser, IsNext, ReadsOf, Took, append, asks, begin_fetch, begin_search, check, close, copy, copy_places, create, delete, enter, expunge, fetch, fetch_in, fetch_places, fetching, follow, follows_view, holds_all, is_at_home, is_free, is_said, is_shown, is_view_current, list, login, logout, obey, rename, says, search, search_in, searching, select, status, stays_current, store, store_places, subscribe, took, unselected, without_memory}
-use Rattle.imap_session.specs.Sound.{IsSound}
+use Rattle.imap_session.specs.Sound.{IsSoundDialog}
 use Rattle.std.specs.List.{list_all}
 use Rattle.imap_view.proofs.Mail.{view_in_order}
 use Rattle.imap_view.proofs.Views.{view_is_current}
@@ -41,7 +41,7 @@ use Rattle.imap_session.proofs.Wanted.{bodies_are, searched_are}
 
 -- what holds of what comes of a command
 pub record IsFine (house : House) (s : MailStore) (old : Dialog) (t : Took) : Type 0 where
-  pub sound : IsSound t.dialog
+  pub sound : IsSoundDialog t.dialog
   pub next : IsNext t.out t.dialog
   pub user : AsksAsUser t.out t.dialog
   pub reads : ReadsOf s t.out
@@ -53,7 +53,7 @@ none_selected : (s : MailStore) (user : Option User) (selected : Option Selected
 none_selected s user None h = refl
 none_selected s user (Some selected) h = absurd (h refl)
 
-module _ (house : House) (s : MailStore) (d : Dialog) (sound : IsSound d) (free : is_free d ≡ true) where
+module _ (house : House) (s : MailStore) (d : Dialog) (sound : IsSoundDialog d) (free : is_free d ≡ true) where
   fine_say : (text : List ℕ) → IsFine house s d (took (Say text) d)
   fine_say text = record { sound = sound; next = free; user = tt; reads = tt; home = λ h. h; view = λ said h. h }
 
@@ -314,21 +314,21 @@ pub noop_is : (house : House) (s : MailStore) (sizes : Body → Option ℕ) (dee
 noop_is house s sizes deep tag d asked t e h = rw e h
 
 -- what want of memory leaves is as sound as it was, and at home
-unselected_sound : (d : Dialog) → IsSound d → IsSound (unselected d)
+unselected_sound : (d : Dialog) → IsSoundDialog d → IsSoundDialog (unselected d)
 unselected_sound d sound = record { view = tt; selected = λ h. absurd (true≢false (sym h)); awaits = sound.awaits }
 
 pub record IsLeft (house : House) (old left : Dialog) : Type 0 where
-  pub sound : IsSound left
+  pub sound : IsSoundDialog left
   pub home : is_at_home house old ≡ true → is_at_home house left ≡ true
   pub free : is_free left ≡ is_free old
 
-left_as_it_was : (house : House) (d : Dialog) → IsSound d → IsLeft house d d
+left_as_it_was : (house : House) (d : Dialog) → IsSoundDialog d → IsLeft house d d
 left_as_it_was house d sound = record { sound = sound; home = λ h. h; free = refl }
 
-left_unselected : (house : House) (d : Dialog) → IsSound d → IsLeft house d (unselected d)
+left_unselected : (house : House) (d : Dialog) → IsSoundDialog d → IsLeft house d (unselected d)
 left_unselected house d sound = record { sound = unselected_sound d sound; home = λ h. h; free = refl }
 
-pub fine_left : (house : House) (d : Dialog) (asked : ImapWhat) → IsSound d → IsLeft house d (without_memory asked d)
+pub fine_left : (house : House) (d : Dialog) (asked : ImapWhat) → IsSoundDialog d → IsLeft house d (without_memory asked d)
 fine_left house d what.Capability sound = left_as_it_was house d sound
 fine_left house d what.Noop sound = left_as_it_was house d sound
 fine_left house d what.Logout sound = left_as_it_was house d sound

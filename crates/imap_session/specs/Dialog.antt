@@ -15,6 +15,7 @@ use Rattle.imap_lines.specs.Command.{Reading, command_of}
 use Rattle.imap_stream.specs.declared.picks.SetRange.{SetRange}
 use Rattle.imap_text.specs.Answers.{list_lines, select_lines, status_line}
 use Rattle.imap_fetch.specs.declared.asked.Attribute.{Attribute}
+use Rattle.imap_fetch.specs.declared.messages.Message.{Message}
 use Rattle.imap_fetch.specs.declared.lines.StoreForm.{StoreForm}
 use Rattle.imap_fetch.specs.Asked.{attributes_of, octets_asked, sets_seen}
 use Rattle.imap_fetch.specs.Told.{fetch_lines, store_lines}
@@ -58,7 +59,7 @@ use Rattle.imap_view.specs.Views.{is_current, news, view_of}
 use Rattle.imap_view.specs.Named.{keys_at, places_named, rows_at}
 use Rattle.imap_view.specs.Facts.{facts_at, is_there}
 use Rattle.imap_session.specs.Fetching.{ask_of, bodies_of}
-use Rattle.imap_session.specs.Searching.{all_places, found, is_known_charset, last_uid, numbers_of, search_ask, search_bodies, search_line}
+use Rattle.imap_session.specs.Searching.{all_places, ask_for, bare_found, found, is_known_charset, last_uid, numbers_of, search_ask, search_bodies, search_line}
 use Rattle.search_verb.specs.Asked.{Asked}
 
 -- what comes of a command, and the dialog after it
@@ -253,6 +254,27 @@ begin_search tag d q (body ∷ bodies) = reads tag (wanted.Search q) (body ∷ b
 abbrev pub search_in : MailStore → (Body → Option ℕ) → List ℕ → Dialog → Selected → Asked → Bool → Took
 search_in s sizes tag d selected key by_uid =
     let q = searching s sizes d selected key by_uid in begin_search tag d q (search_bodies q)
+
+-- a SEARCH of the selected mailbox, without a list of the messages of its view
+abbrev pub bare_searching : Selected → Asked → Bool → Searching
+bare_searching selected key by_uid = record {
+  mailbox = selected.mailbox;
+  key = key;
+  by_uid = by_uid;
+  last_place = length selected.view;
+  last_uid = last_uid selected.view;
+  rows = [];
+}
+
+-- what is to be told of messages, however they were found
+abbrev pub pending_for : Searching → List Message → Pending
+pending_for q rows = on.Search q.by_uid (numbers_of q.by_uid rows)
+
+-- what comes of one that looks at flags, numbers and days alone
+abbrev pub search_bare : MailStore → List ℕ → Dialog → Selected → Asked → Bool → Took
+search_bare s tag d selected key by_uid =
+    let q = bare_searching selected key by_uid in let rows = bare_found q (mail_of s d.user selected.mailbox) selected.view in
+    asks (ask_for q rows) tag (pending_for q rows) d
 
 -- SEARCH and UID SEARCH (RFC 3501, 6.4.4 and 6.4.8)
 abbrev pub search : MailStore → (Body → Option ℕ) → List ℕ → Dialog → Option Selected → Option (List ℕ) → Asked → Bool → Took

@@ -12,9 +12,11 @@ use Rattle.imap_view.specs.declared.messages.Known.{Known}
 use Rattle.search_verb.specs.Meets.{Facts, meets, needed}
 use Rattle.search_verb.specs.declared.candidate.Look.{Look}
 use Rattle.search_verb.specs.declared.candidate.Look.TheVariants as look
+use Rattle.imap_view.specs.Named.{message_at, untold}
 use Rattle.verb_core.specs.declared.ask.Ask.{Ask}
 use Rattle.verb_core.specs.declared.ask.Ask.TheVariants as ask
 use Rattle.verb_core.specs.declared.mailbox.Body.{Body}
+use Rattle.verb_core.specs.declared.mailbox.Entry.{Entry}
 
 -- US-ASCII or UTF-8, in any case; without a charset strings are US-ASCII
 abbrev pub is_known_charset : Option (List ℕ) → Bool
@@ -86,6 +88,14 @@ found_from q texts place (m ∷ rows) = kept q texts place m ++ found_from q tex
 abbrev pub found : Searching → List (List ℕ) → List Message
 found q texts = if is_too_large q then [] else found_from q texts 0 q.rows
 
+-- the message at a place of a view, where it matches what is told without its size and its text
+abbrev pub bare_kept : Searching → List Entry → List Known → ℕ → List Message
+bare_kept q entries view place = option_map_or (λ (m : Message). kept q [] 0 m) (message_at untold entries view place) []
+
+-- those of all places
+abbrev pub bare_found : Searching → List Entry → List Known → List Message
+bare_found q entries view = flat_map (bare_kept q entries view) (all_places view)
+
 abbrev pub keys_of : List Message → List Key
 keys_of rows = map (λ (m : Message). m.entry.key) rows
 
@@ -99,6 +109,10 @@ numbers_of by_uid rows = map (number_of by_uid) rows
 -- it is recorded as a FETCH of the messages that it found
 abbrev pub search_ask : Searching → List (List ℕ) → Ask
 search_ask q texts = ask.Fetch q.mailbox (keys_of (found q texts)) false (is_of_more (needed q.key)) false (octets_of q)
+
+-- the same of messages, however they were found
+abbrev pub ask_for : Searching → List Message → Ask
+ask_for q rows = ask.Fetch q.mailbox (keys_of rows) false (is_of_more (needed q.key)) false (octets_of q)
 
 -- the bodies whose texts it needs: those of all messages of the view that are there
 abbrev pub search_bodies : Searching → List Body

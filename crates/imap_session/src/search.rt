@@ -1,9 +1,10 @@
 //! SEARCH: the messages that match, the texts that it needs, and what it asks of the store.
-ghost use Rattle.std.specs.Prelude.{◌≡◌, ◌+◌, ◌++◌, ◌∷◌, [], Ok, min, length, map, flat_map, get_or, true, IfOk, OnErr, OnOk, IfSome};
+ghost use Rattle.std.specs.Prelude.{◌≡◌, ◌+◌, ◌<◌, ◌++◌, ◌∷◌, [], Ok, min, length, map, flat_map, get_or, true, IfOk, OnErr, OnOk, IfSome};
 ghost use Rattle.std.specs.Fmt.{decimal};
 ghost use Rattle.std.specs.List.{range_with_len};
 ghost use Rattle.shelf.specs.Notes.{size_of};
 ghost use Rattle.verb_core.specs.Store.{IsValid};
+ghost use Rattle.imap_view.specs.Views.{is_by_uid};
 ghost use Rattle.imap_session.specs.Searching as search_spec;
 ghost use Rattle.imap_session.specs.Words as words;
 ghost use Rattle.imap_session.specs.Dialog.{took};
@@ -16,12 +17,12 @@ use crate::words::{Answer, search_word};
 use box_store::Store;
 use imap_fetch::{Message, Messages};
 use imap_tokens::is_same_word;
-use imap_view::{View, mail_of, rows_at};
+use imap_view::{Known, View, bare_message_at, mail_of, rows_at};
 use search_verb::{Candidate, Look, Search};
 use shelf::Shelf;
 use std::alloc::{AllocError, Global};
 use undo_base::{Copies, Key, Keys, MOST_FETCHED, Name, NoMemory, Places, Text, Texts, Uids};
-use verb_core::{Ask, Body};
+use verb_core::{Ask, Body, Entry};
 
 /// What a SEARCH asks of the store, and what is to be said of it then.
 struct Found {
@@ -267,20 +268,19 @@ fn numbers_of(alloc: Global, by_uid: bool, rows: &Messages) -> Result<Uids, NoMe
     Ok(Uids::from_vec(numbers))
 }
 
-/// What it asks of the store with the texts that it needs, and what is to be said then.
-fn found_with(
+/// What it asks of the store where it found these messages, and what is to be said then.
+fn found_as(
     alloc: Global,
     tag: &Name,
     searching: &Searching,
-    texts: &[Text],
+    rows: &Messages,
 ) -> Result<Found, NoMemory>
     ensures tag { IfOk result (λ f. f.tag ≡ tag.now) }
-    ensures asked { IfOk result (λ f. f.asked ≡ search_spec.search_ask searching.now texts.now) }
-    ensures pending { IfOk result (λ f. f.pending ≡ spec.search_pending searching.now texts.now) }
+    ensures asked { IfOk result (λ f. f.asked ≡ search_spec.ask_for searching.now rows.now) }
+    ensures pending { IfOk result (λ f. f.pending ≡ spec.pending_for searching.now rows.now) }
 {
-    let rows = found_of(alloc, searching, texts)?;
-    let keys = keys_of(alloc, &rows)?;
-    let numbers = numbers_of(alloc, searching.by_uid, &rows)?;
+    let keys = keys_of(alloc, rows)?;
+    let numbers = numbers_of(alloc, searching.by_uid, rows)?;
     let mailbox = searching.mailbox.copy(alloc)?;
     let tag = tag.copy(alloc)?;
     Ok(Found {
@@ -298,6 +298,117 @@ fn found_with(
             numbers,
         },
     })
+}
+
+/// What it asks of the store with the texts that it needs, and what is to be said then.
+fn found_with(
+    alloc: Global,
+    tag: &Name,
+    searching: &Searching,
+    texts: &[Text],
+) -> Result<Found, NoMemory>
+    ensures tag { IfOk result (λ f. f.tag ≡ tag.now) }
+    ensures asked { IfOk result (λ f. f.asked ≡ search_spec.search_ask searching.now texts.now) }
+    ensures pending { IfOk result (λ f. f.pending ≡ spec.search_pending searching.now texts.now) }
+{
+    let rows = found_of(alloc, searching, texts)?;
+    found_as(alloc, tag, searching, &rows)
+}
+
+/// Adds the message at a place of a view, where it matches what is told without its size and its text.
+fn keep_bare(
+    alloc: Global,
+    found: &mut Messages,
+    searching: &Searching,
+    entries: &[Entry],
+    view: &[Known],
+    place: u32,
+) -> Result<(), NoMemory>
+    requires order { is_by_uid entries.now ≡ true }
+    requires few { length view.now < 4294967295 }
+    ensures { OnOk result (found.new ≡ found.old ++ search_spec.bare_kept searching.now entries.now view.now place) }
+{
+    match bare_message_at(entries, view, place) {
+        None => Ok(()),
+        Some(row) => keep(alloc, found, searching, &[], 0, &row),
+    }
+}
+
+/// The messages of a view that match, in one pass: nothing is kept of the others, and no size is looked up.
+fn matching_bare(
+    alloc: Global,
+    searching: &Searching,
+    entries: &[Entry],
+    view: &[Known],
+) -> Result<Messages, NoMemory>
+    requires order { is_by_uid entries.now ≡ true }
+    ensures { IfOk result (λ rows. rows ≡ search_spec.bare_found searching.now entries.now view.now) }
+{
+    if view.len() >= u32::MAX as usize {
+        return Err(NoMemory);
+    }
+    let mut found = Messages::new(alloc);
+    for place in 0..view.len() as u32 {
+        keep_bare(alloc, &mut found, searching, entries, view, place)?;
+    }
+    Ok(found)
+}
+
+/// A SEARCH that looks at flags, numbers and days alone, with no list of the view's messages.
+fn bare_searching(
+    alloc: Global,
+    selected: &Selected,
+    key: &Search,
+    by_uid: bool,
+) -> Result<Searching, NoMemory>
+    ensures { IfOk result (λ q. q ≡ spec.bare_searching selected.now key.now by_uid) }
+{
+    let last_place = count_of(&selected.view)?;
+    let mailbox = selected.mailbox.copy(alloc)?;
+    let key = key.copy(alloc)?;
+    Ok(Searching {
+        mailbox,
+        key,
+        by_uid,
+        last_place,
+        last_uid: last_uid(&selected.view),
+        rows: Messages::new(alloc),
+    })
+}
+
+/// What it asks of the store where it looks at flags, numbers and days alone, and what is to be said then.
+fn found_bare(
+    alloc: Global,
+    tag: &Name,
+    searching: &Searching,
+    entries: &[Entry],
+    view: &View,
+) -> Result<Found, NoMemory>
+    requires order { is_by_uid entries.now ≡ true }
+    ensures tag { IfOk result (λ f. f.tag ≡ tag.now) }
+    ensures asked { IfOk result (λ f. f.asked ≡ search_spec.ask_for searching.now (search_spec.bare_found searching.now entries.now view.now)) }
+    ensures pending { IfOk result (λ f. f.pending ≡ spec.pending_for searching.now (search_spec.bare_found searching.now entries.now view.now)) }
+{
+    let rows = matching_bare(alloc, searching, entries, view.as_slice())?;
+    found_as(alloc, tag, searching, &rows)
+}
+
+/// The same of the selected mailbox.
+fn found_in(
+    alloc: Global,
+    store: &Store,
+    dialog: &Dialog,
+    selected: &Selected,
+    tag: &Name,
+    key: &Search,
+    by_uid: bool,
+) -> Result<Found, NoMemory>
+    requires { IsValid store.now.store }
+    ensures { IfOk result (λ f. spec.asks f.asked f.tag f.pending dialog.now ≡ spec.search_bare store.now.store tag.now dialog.now selected.now key.now by_uid) }
+{
+    let entries = mail_of(store, dialog.user, &selected.mailbox);
+    let searching = bare_searching(alloc, selected, key, by_uid)?;
+    found_bare(alloc, tag, &searching, entries, &selected.view)
 }
 
 fn submit_found(dialog: &mut Dialog, found: Found) -> ImapOut
@@ -380,6 +491,10 @@ pub(crate) fn search(
     };
     if !is_known_charset(charset) {
         return say(alloc, tag, Answer::BadCharset);
+    }
+    if !is_of_more(key.looks()) {
+        let found = found_in(alloc, store, dialog, selected, tag, key, by_uid)?;
+        return Ok(submit_found(dialog, found));
     }
     let searching = searching_of(alloc, store, sizes, dialog, selected, key, by_uid)?;
     let bodies = bodies_of(alloc, &searching)?;

@@ -1,4 +1,7 @@
 //! The session of an IMAP client.
+//!
+//! Where no memory is found for a command the session stays as it was. But no mailbox is selected after a SELECT or EXAMINE,
+//! wherever the memory was missing, as after any refusal of one.
 ghost use Rattle.std.specs.Prelude.{◌≡◌, IsTrue, IfOk, OnOk, OnErr, true};
 ghost use Rattle.shelf.specs.Notes.{size_of};
 ghost use Rattle.verb_core.specs.Boxes.{is_rising};
@@ -30,7 +33,7 @@ impl Model for ImapSession {
     ghost use Rattle.std.specs.Prelude.{◌≡◌};
     ghost use Rattle.imap_session.specs.declared.dialog.Dialog.{Dialog as TheDialog};
     ghost use Rattle.imap_session.specs.declared.session.ImapSession.TheInside.{Inside};
-    ghost use Rattle.imap_session.specs.Sound.{IsSound};
+    ghost use Rattle.imap_session.specs.Sound.{IsSoundDialog};
     ghost use Rattle.search_verb.specs.contracts.building.Search as search;
     ghost use Rattle.std.specs.Coded.{codes};
 
@@ -40,7 +43,7 @@ impl Model for ImapSession {
 
     ghost view = { λ s. s.dialog };
 
-    ghost invariant = { λ s. IsSound s.dialog × ((other : Inside) → s ≡ record other { dialog = s.dialog }) };
+    ghost invariant = { λ s. IsSoundDialog s.dialog × ((other : Inside) → s ≡ record other { dialog = s.dialog }) };
 }
 
 impl ImapSession {

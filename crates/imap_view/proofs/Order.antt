@@ -94,6 +94,11 @@ module _ {X : Type 0} (u : X → ℕ) where
           | false ↦ λ e. find_there (u x) xs (second_so _ _ h) i d (omega arith) is
         ] refl
 
+    -- the one that passes is found
+    pub found_there : (xs : List X) → rises_above 0 (map u xs) ≡ true → (i : ℕ) (d : X) → i < length xs → p (get_or xs i d) ≡ true → Some (get_or xs i d) ≡ find p xs
+    found_there xs h i d within passes =
+        sym (find_there 0 xs h i d within (only (get_or xs i d) passes) ∙ ap (λ b. cond b (Some (get_or xs i d)) None) passes)
+
     -- what a binary search found
     pub find_placed : (xs : List X) → rises_above 0 (map u xs) ≡ true → (i : ℕ) (d : X) → i < length xs → HoldsAt (λ x. nat_cmp (u x) n ≡ Equal) xs i
         → find p xs ≡ cond (p (get_or xs i d)) (Some (get_or xs i d)) None

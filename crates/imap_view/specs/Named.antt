@@ -33,3 +33,7 @@ message_at sizes entries view place =
 -- the messages at these places that are still there
 abbrev pub rows_at : (Body → Option ℕ) → List Entry → List Known → List ℕ → List Message
 rows_at sizes entries view places = filter_map (message_at sizes entries view) places
+
+-- no size is told of any text
+abbrev pub untold : Body → Option ℕ
+untold body = None

@@ -1,4 +1,10 @@
 //! The messages of its mailbox that a session knows, and how it is told of changes (RFC 3501, section 7).
+//!
+//! A message of a view is found in its mailbox by UID and key together. In every state that is reached one of them would do.
+//!
+//! A view is told of by what lies in the mailbox: after it was told, it is all that lies there.
+//!
+//! More than 4,294,967,294 messages in a view find no memory.
 ghost use Rattle.std.specs.Prelude.{◌≡◌, ◌+◌, ◌<◌, ◌≤◌, true, ◌++◌, ◌∷◌, [], length, option_copied, IfOk, OnOk, if◌then◌else◌};
 ghost use Rattle.std.specs.List.Sorted.{IsBinarySearchResult, IsSearchInRange};
 ghost use Rattle.std.specs.Ordering.{nat_cmp};
@@ -44,7 +50,7 @@ fn search_entries(entries: &[Entry], uid: u64) -> Result<usize, usize>
 }
 
 /// The entry of a message, where it is still there.
-pub(crate) fn find_entry(entries: &[Entry], known: Known) -> Option<&Entry>
+fn find_entry(entries: &[Entry], known: Known) -> Option<&Entry>
     requires { spec.is_by_uid entries.now ≡ true }
     ensures { option_copied result ≡ spec.entry_of entries.now known }
 {
@@ -59,6 +65,20 @@ pub(crate) fn find_entry(entries: &[Entry], known: Known) -> Option<&Entry>
         }
         Err(_) => None,
     }
+}
+
+/// The entry of a message, where it is still there. It is looked for at a place first, where it lies unless one before it went.
+pub(crate) fn find_near(entries: &[Entry], place: usize, known: Known) -> Option<&Entry>
+    requires { spec.is_by_uid entries.now ≡ true }
+    ensures { option_copied result ≡ spec.entry_of entries.now known }
+{
+    if place < entries.len() {
+        let entry = &entries[place];
+        if is_message(known, entry) {
+            return Some(entry);
+        }
+    }
+    find_entry(entries, known)
 }
 
 #[tactic(auto, using(crate::proofs::Order::below_more))]

@@ -1,4 +1,6 @@
 //! The messages that a command names.
+//!
+//! A body whose length is not known counts as empty, which never comes about.
 ghost use Rattle.std.specs.Prelude.{◌≡◌, ℕ, ◌<◌, List, Err, true, false, length, option_map, unwrap_or, IfOk};
 ghost use Rattle.shelf.specs.Notes.{size_of};
 ghost use Rattle.imap_stream.specs.declared.picks.SetRange.{SetRange as TheRange};
@@ -6,7 +8,7 @@ ghost use Rattle.imap_stream.specs.Sets.{Picks};
 ghost use Rattle.imap_view.specs.Views.{entry_of, is_by_uid, is_in_order};
 ghost use Rattle.imap_view.specs.Named as spec;
 
-use crate::messages::{Known, View, find_entry};
+use crate::messages::{Known, View, find_near};
 use crate::picks::pick_uids;
 use imap_fetch::{Message, Messages};
 use imap_lines::{PickRefused, SetText};
@@ -91,15 +93,21 @@ fn length_of(sizes: &Shelf, body: Body) -> u32
     }
 }
 
-/// A message with its number, as it lies now.
-fn message_of(sizes: &Shelf, entries: &[Entry], place: u32, known: Known) -> Option<Message>
+/// A message with its place and its number, as it lies now.
+fn message_of(
+    sizes: &Shelf,
+    entries: &[Entry],
+    place: usize,
+    number: u32,
+    known: Known,
+) -> Option<Message>
     requires { is_by_uid entries.now ≡ true }
-    ensures { result ≡ option_map (λ e. record { place = place; entry = e; size = unwrap_or (size_of sizes.now.notes e.body) 0 }) (entry_of entries.now known) }
+    ensures { result ≡ option_map (λ e. record { place = number; entry = e; size = unwrap_or (size_of sizes.now.notes e.body) 0 }) (entry_of entries.now known) }
 {
-    match find_entry(entries, known) {
+    match find_near(entries, place, known) {
         None => None,
         Some(entry) => Some(Message {
-            place,
+            place: number,
             entry: *entry,
             size: length_of(sizes, entry.body),
         }),
@@ -114,7 +122,34 @@ fn message_at(sizes: &Shelf, entries: &[Entry], view: &[Known], place: u32) -> O
 {
     match view.get(place as usize) {
         None => None,
-        Some(known) => message_of(sizes, entries, place + 1, *known),
+        Some(known) => message_of(sizes, entries, place as usize, place + 1, *known),
+    }
+}
+
+/// A message with its place and its number, as it lies now, with no size.
+fn bare_message_of(entries: &[Entry], place: usize, number: u32, known: Known) -> Option<Message>
+    requires { is_by_uid entries.now ≡ true }
+    ensures { result ≡ option_map (λ e. record { place = number; entry = e; size = 0 }) (entry_of entries.now known) }
+{
+    match find_near(entries, place, known) {
+        None => None,
+        Some(entry) => Some(Message {
+            place: number,
+            entry: *entry,
+            size: 0,
+        }),
+    }
+}
+
+/// The message at a place, with its number from 1, as it lies now, and 0 for its size, which is not looked up.
+pub fn bare_message_at(entries: &[Entry], view: &[Known], place: u32) -> Option<Message>
+    requires order { is_by_uid entries.now ≡ true }
+    requires few { length view.now < 4294967295 }
+    ensures { result ≡ spec.message_at spec.untold entries.now view.now place }
+{
+    match view.get(place as usize) {
+        None => None,
+        Some(known) => bare_message_of(entries, place as usize, place + 1, *known),
     }
 }
 

@@ -2,14 +2,14 @@ use Rattle.std.proofs.Common.{◌≡◌, subst, sym, true, refl}
 use Rattle.shelf.specs.Notes.{size_of}
 use Rattle.imap_session.specs.declared.dialog.Dialog.{Dialog}
 use Rattle.imap_session.specs.Dialog.{AsksAsUser, IsNext, ReadsOf, is_at_home, is_free, is_view_current, stays_current, turn, without_memory}
-use Rattle.imap_session.specs.Sound.{IsSound}
+use Rattle.imap_session.specs.Sound.{IsSoundDialog}
 use Rattle.imap_session.proofs.Turns.{current_after, fine_left, fine_obey}
 use Rattle.imap_session.proofs.Settled.{dialog_after, out_after}
 use Rattle.imap_session.proofs.session.ImapSession.take_known.Goals as goal
 
 pub invariant_of-self : goal.invariant_of-self
 invariant_of-self c = (
-  dialog_after c.obey.result (turn c.args.house.now c.args.store.now.store (size_of c.args.sizes.now.notes) c.args.deep c.self.inside.dialog c.args.command.now) (without_memory c.args.command.now.what c.self.inside.dialog) c.obey.new.dialog c.obey.ensures.ok c.obey.ensures.err IsSound
+  dialog_after c.obey.result (turn c.args.house.now c.args.store.now.store (size_of c.args.sizes.now.notes) c.args.deep c.self.inside.dialog c.args.command.now) (without_memory c.args.command.now.what c.self.inside.dialog) c.obey.new.dialog c.obey.ensures.ok c.obey.ensures.err IsSoundDialog
       (fine_obey c.args.house.now c.args.store.now.store c.self.inside.dialog c.self.invariant.0 (subst (λ (d : Dialog). is_free d ≡ true) (sym c.self.view_is) c.requires.free) (size_of c.args.sizes.now.notes) c.args.deep c.args.command.now.tag c.args.command.now.what c.requires.valid).sound (fine_left c.args.house.now c.self.inside.dialog c.args.command.now.what c.self.invariant.0).sound,
   λ other. refl,
 )
