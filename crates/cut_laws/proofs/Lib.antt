@@ -4,7 +4,7 @@ pub mod Cut
 pub mod States
 pub mod Fates
 pub mod Lasting
+pub mod Sizes
 pub mod Spelled
 pub mod Openings
-pub mod Sizes
 pub mod Stopped

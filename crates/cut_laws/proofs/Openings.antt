@@ -106,11 +106,11 @@ cut_there records f n image part short is split cut_here =
     (length (sealed (payloads_of (take n records))), inl front)
 
 -- what is told of the end of a journal
-abbrev pub Ends : Type 0
-Ends = (payloads : List (List ℕ)) (front back : List ℕ) → AllByRecursion IsPayload payloads → closed_journal payloads ≡ front ++ back → 0 < length back
+abbrev pub EndsAreTold : Type 0
+EndsAreTold = (payloads : List (List ℕ)) (front back : List ℕ) → AllByRecursion IsPayload payloads → closed_journal payloads ≡ front ++ back → 0 < length back
     → (front ≡ []) ⊎ ((count : ℕ) × (part : List ℕ) × (count ≤ length payloads) × (front ≡ sealed (take count payloads) ++ part) × BeginsCut part)
 
-pub refused : Ends → (s : Kept) (place : ℕ) → CanBeWritten s place → state (cut_records s place) ≡ Some (cut s place) → (front back : List ℕ) → cut_journal s place ≡ front ++ back → 0 < length back
+pub refused : EndsAreTold → (s : Kept) (place : ℕ) → CanBeWritten s place → state (cut_records s place) ≡ Some (cut s place) → (front back : List ℕ) → cut_journal s place ≡ front ++ back → 0 < length back
     → OpensAs front (Err NotFormatted) ⊎ ((at : ℕ) × OpensAs front (Err (Damaged at)))
 refused ends s place written is front back split some = by (ends (payloads_of (cut_records s place)) front back written.framed split some)
   where

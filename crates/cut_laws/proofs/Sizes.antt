@@ -97,14 +97,14 @@ records_base old new (r ∷ rs) e = by (λ next is. records_base next new rs is)
 
 -- ---- the mailboxes of a Base
 
-size_is : (fields : List Field) → size_of fields ≡ length (bytes_of fields)
+pub size_is : (fields : List Field) → size_of fields ≡ length (bytes_of fields)
 unfolding size_of
 size_is fields = refl
 
-size_behind : (x y : List Field) (n : ℕ) → n ≤ size_of y → n ≤ size_of (x ++ y)
+pub size_behind : (x y : List Field) (n : ℕ) → n ≤ size_of y → n ≤ size_of (x ++ y)
 size_behind x y n le = omega (arith, le, size_both x y)
 
-size_before : (x y : List Field) (n : ℕ) → n ≤ size_of x → n ≤ size_of (x ++ y)
+pub size_before : (x y : List Field) (n : ℕ) → n ≤ size_of x → n ≤ size_of (x ++ y)
 size_before x y n le = omega (arith, le, size_both x y)
 
 -- a mailbox takes two bytes at least
@@ -212,7 +212,8 @@ length_enumerated : (n : ℕ) (xs : List Account) → length (enumerate_from n x
 length_enumerated n [] = refl
 length_enumerated n (x ∷ xs) = ap suc (length_enumerated (n + 1) xs)
 
-few_users : (house : House) → is_house house ≡ true → length house.accounts ≤ 200
+-- a house has 200 users at most
+pub few_users : (house : House) → is_house house ≡ true → length house.accounts ≤ 200
 few_users house is =
     let count = nat_le 1 (length house.accounts) && nat_le (length house.accounts) 200 in
     let known = is_known house house.postmaster in
@@ -220,13 +221,16 @@ few_users house is =
     let one = first_so count known (first_so (count && known) (nat_le 2 house.first) two) in
     leb-true (length house.accounts) 200 (second_so (nat_le 1 (length house.accounts)) (nat_le (length house.accounts) 200) one)
 
-opening_few : (house : House) (conf : Conf) → is_house house ≡ true → length (opening house conf).boxes ≤ 2147483647
-opening_few house conf is =
+pub opening_length : (house : House) (conf : Conf) → is_house house ≡ true → length (opening house conf).boxes ≤ 400
+opening_length house conf is =
     let twice : length (first_rows (users_of house)) ≡ length (users_of house) + length (users_of house) = first_length (users_of house) in
     let many : length (users_of house) ≡ length (enumerate_from 0 house.accounts) = length-map (enumerate_from 0 house.accounts) (λ (a : ℕ × Account). record { 0 = a.0 }) in
     let all : length (enumerate_from 0 house.accounts) ≡ length house.accounts = length_enumerated 0 house.accounts in
     let most : length house.accounts ≤ 200 = few_users house is in
     omega (arith, twice, many, all, most)
+
+opening_few : (house : House) (conf : Conf) → is_house house ≡ true → length (opening house conf).boxes ≤ 2147483647
+opening_few house conf is = let le : length (opening house conf).boxes ≤ 400 = opening_length house conf is in omega (arith, le)
 
 -- what a front leaves
 settled_few : (house : House) (conf : Conf) (o : Option Based) (kept : Kept) → FewRows o → settled_by house conf o ≡ Some kept → is_house kept.house ≡ true → length kept.base.boxes ≤ 2147483647

@@ -15,7 +15,7 @@ use Rattle.verb_core.specs.declared.mailbox.Body.{Body}
 use Rattle.verb_core.specs.Deeds.{with_text}
 use Rattle.verb_bytes.specs.declared.journal.JournalRecord.{JournalRecord}
 use Rattle.verb_bytes.specs.declared.journal.JournalRecord.TheVariants.{Format, Text as TextRecord, Kept as KeptRecord}
-use Rattle.verb_bytes.specs.Fields.{Field, ◌&◌, act_kind, actor_field, any_text_field, are_in_range, bytes_of, deed_kind_to, flags_field, list_fields, moment_field, most_of_four, name_field, record_kind, u32_field, user_field}
+use Rattle.verb_bytes.specs.Fields.{Field, ◌&◌, act_kind, actor_field, any_text_field, are_in_range, deed_kind_to, flags_field, list_fields, moment_field, most_of_four, name_field, record_kind, u32_field, user_field}
 use Rattle.verb_bytes.specs.Places.{size_of}
 use Rattle.verb_bytes.specs.Spelling.{HasSpelling, kept_deed_fields, record_bytes, record_fields, shown_fields_within, shown_kind, text_record_fields}
 use Rattle.verb_bytes.proofs.Exact.{in_range_both}
@@ -31,6 +31,7 @@ use Rattle.desk_journal.proofs.Founded.{fore_begun}
 use Rattle.time_desk.specs.Cutting.{base_record}
 use Rattle.cut_laws.specs.Cuts.{AreSpelled, CanBeCut, CanBeWritten}
 use Rattle.cut_laws.proofs.Cut.{both_true}
+use Rattle.cut_laws.proofs.Sizes.{size_before, size_behind, size_is}
 
 -- ---- fields
 
@@ -43,16 +44,6 @@ behind : (x y z : List Field) → (are_in_range y ≡ true → are_in_range z �
 behind x y z more is =
     let both : (are_in_range x && are_in_range y) ≡ true = sym (range_both x y) ∙ is in
     in_range_both x z (first_so (are_in_range x) (are_in_range y) both) (more (second_so (are_in_range x) (are_in_range y) both))
-
-size_is : (fields : List Field) → size_of fields ≡ length (bytes_of fields)
-unfolding size_of
-size_is fields = refl
-
-size_behind : (x y : List Field) (n : ℕ) → n ≤ size_of y → n ≤ size_of (x ++ y)
-size_behind x y n le = omega (arith, le, size_both x y)
-
-size_before : (x y : List Field) (n : ℕ) → n ≤ size_of x → n ≤ size_of (x ++ y)
-size_before x y n le = omega (arith, le, size_both x y)
 
 -- ---- a Text
 

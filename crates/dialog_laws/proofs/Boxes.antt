@@ -1,8 +1,7 @@
 -- Mailboxes that have names, and entries in the ranges of records.
-use Rattle.std.proofs.Common.{◌≡◌, ℕ, ◌+◌, ◌<◌, ◌≤◌, Bool, true, List, [], ◌∷◌, length, filter, Option, None, Some, option_map, unwrap_or, arith, nat_lt, ltb-true}
+use Rattle.std.proofs.Common.{◌≡◌, ℕ, ◌+◌, ◌<◌, ◌≤◌, Bool, true, List, [], ◌∷◌, length, filter, option_map, arith, nat_lt, ltb-true}
 use Rattle.std.specs.Prelude.{IfSome}
 use Rattle.std.specs.List.{AllByRecursion}
-use Rattle.std.specs.Ordering.{eq_by_cmp}
 use Rattle.std.specs.Cmp.{first_so, second_so}
 use Rattle.std.proofs.lemmas.List.{length-map}
 use Rattle.undo_base.specs.declared.keys.Key.{Key}
@@ -12,11 +11,12 @@ use Rattle.verb_core.specs.declared.mailbox.BoxId.{BoxId}
 use Rattle.verb_core.specs.declared.mailbox.Entry.{Entry}
 use Rattle.verb_core.specs.declared.mailbox.Mailbox.{Mailbox}
 use Rattle.verb_core.specs.Mailboxes.{entry_of, keys_of, same_key, sights, uids_rise}
-use Rattle.verb_core.specs.Boxes.{box_cmp, mail_at, names_of, row_at, rows_of, same_user}
+use Rattle.verb_core.specs.Boxes.{mail_at, names_of, rows_of, same_user}
 use Rattle.verb_core.specs.Step.{Boxes}
 use Rattle.verb_bytes.specs.Limits.{AreFew, AreKeys, AreMany, IsKey, IsSight}
 use Rattle.dialog_laws.specs.Ranges.{AreAllKeys, IsStoredEntry, IsStoredRow}
-use Rattle.dialog_laws.proofs.Lists.{all_chosen, all_filtered, all_mapped, chosen_no_longer, either, filter_no_longer, found_has, some_mapped}
+use Rattle.kept_laws.proofs.Rows.{mail_fits}
+use Rattle.kept_laws.proofs.Lists.{all_chosen, all_filtered, all_mapped, chosen_no_longer, filter_no_longer, found_has, some_mapped}
 
 abbrev pub AreStored : List Entry → Type 0
 AreStored es = AllByRecursion IsStoredEntry es
@@ -26,16 +26,8 @@ AreRows rs = AllByRecursion IsStoredRow rs
 
 -- ---- what lies in a mailbox
 
-pub row_has : (id : BoxId) (rs : Boxes) → AreRows rs → IfSome (row_at id rs) (λ (m : Mailbox). AreStored m.entries)
-row_has id [] h = tt
-row_has id (r ∷ rs) h = either (λ (o : Option Mailbox). IfSome o (λ (m : Mailbox). AreStored m.entries)) (eq_by_cmp box_cmp id r.0) (Some r.1) (row_at id rs) h.0.1 (row_has id rs h.1)
-
-mail_in : (o : Option Mailbox) → IfSome o (λ (m : Mailbox). AreStored m.entries) → AreStored (unwrap_or (option_map (λ (m : Mailbox). m.entries) o) [])
-mail_in None h = tt
-mail_in (Some m) h = h
-
 pub mail_stored : (id : BoxId) (rs : Boxes) → AreRows rs → AreStored (mail_at id rs)
-mail_stored id rs h = mail_in (row_at id rs) (row_has id rs h)
+mail_stored id rs h = mail_fits IsStoredEntry id rs h
 
 pub keys_stored : (es : List Entry) → AreStored es → AreAllKeys (keys_of es)
 keys_stored es h = all_mapped IsStoredEntry IsKey (λ (e : Entry). e.key) (λ e k. k.0) es h

@@ -46,12 +46,12 @@ use Rattle.verb_bytes.specs.Limits.{IsKey, IsUser}
 use Rattle.dialog_laws.specs.Ranges.{AreAllKeys, IsRecordable, IsStored, IsStoredEntry}
 use Rattle.dialog_laws.specs.ImapClient.{AskedBy}
 use Rattle.dialog_laws.specs.PopClient.{AreKeyed, AsksRecordable, IsAwaited, IsFetching, IsPending, IsPlain, IsStaged, Line, Outcome, Taken, Text, asked_by, asked_in, turn_of}
-use Rattle.dialog_laws.proofs.Lists.{all_filtered, all_joined, all_mapped, either, member_has}
+use Rattle.kept_laws.proofs.Lists.{all_filtered, all_joined, all_mapped, either, member_has}
 use Rattle.dialog_laws.proofs.Boxes.{mail_stored}
 use Rattle.dialog_laws.proofs.Naming.{name_of_test}
 use Rattle.dialog_laws.proofs.Options.{at_has}
 use Rattle.dialog_laws.proofs.Reading.{CanBeRecorded}
-use Rattle.dialog_laws.proofs.Steps.{few_users}
+use Rattle.cut_laws.proofs.Sizes.{few_users}
 
 -- ---- keys of a maildrop
 

@@ -1,7 +1,5 @@
-pub mod Lists
 pub mod Options
 pub mod Boxes
-pub mod NamesMade
 pub mod Live
 pub mod Steps
 pub mod Naming

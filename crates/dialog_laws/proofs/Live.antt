@@ -29,7 +29,7 @@ use Rattle.verb_core.specs.Live.{answered, asked_item, asker, asks_fixed, deed_o
 use Rattle.verb_bytes.specs.Limits.{AreKeys, IsAsked, IsDeed, IsKey, IsShown, IsUser, delivery}
 use Rattle.verb_bytes.specs.Spelling.{shown_kind}
 use Rattle.dialog_laws.specs.Ranges.{AreAllKeys, IsRecordable, IsStored, IsStoredEntry}
-use Rattle.dialog_laws.proofs.Lists.{all_filtered, either, filter_no_longer}
+use Rattle.kept_laws.proofs.Lists.{all_filtered, either, filter_no_longer}
 use Rattle.dialog_laws.proofs.Boxes.{AreStored, below_next, few_filtered, keys_stored, mail_stored, names_stored, sights_few}
 
 -- ---- what is not refused

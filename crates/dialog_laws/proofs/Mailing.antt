@@ -25,7 +25,7 @@ use Rattle.smtp_session.specs.Limits.{AsksWithin}
 use Rattle.smtp_session.proofs.Stays.{small_turn, asks_turn}
 use Rattle.verb_bytes.specs.Limits.{IsMail}
 use Rattle.dialog_laws.specs.SmtpClient.{HasNames, IsDelivery, IsMailing, IsTimely, Line, Outcome, Taken, asked_by, asked_in}
-use Rattle.dialog_laws.proofs.Lists.{all_joined, either, member_has}
+use Rattle.kept_laws.proofs.Lists.{all_joined, either, member_has}
 use Rattle.dialog_laws.proofs.Naming.{recipient_named}
 
 -- what the grammar says of commands

@@ -51,18 +51,7 @@ is_good (b ∷ bytes) = b == 43
 
 bad_refusal : (r : Refused) → is_good (answer_text (ask_refused r)) ≡ false
 bad_refusal why.Gone = refl
-bad_refusal (why.TooMany asked) = refl
-bad_refusal (why.Numbers next) = refl
-bad_refusal why.NoMemory = refl
-bad_refusal why.NoBox = refl
-bad_refusal why.Exists = refl
-bad_refusal why.HasInferiors = refl
-bad_refusal why.Fixed = refl
-bad_refusal why.NameShape = refl
-bad_refusal why.TryCreate = refl
-bad_refusal (why.TooLarge asked) = refl
-bad_refusal why.BoxesFull = refl
-bad_refusal why.UidWide = refl
+bad_refusal _ = refl
 
 good_closing : is_good (answer_text Closing) ≡ true
 good_closing = refl

@@ -56,12 +56,12 @@ use Rattle.imap_session.specs.Searching.{all_places, finds, found, found_from, i
 use Rattle.verb_bytes.specs.Limits.{IsKey, IsUser}
 use Rattle.dialog_laws.specs.Ranges.{AreAllKeys, IsRecordable, IsStored, IsStoredEntry}
 use Rattle.dialog_laws.specs.ImapClient.{AskedBy, AsksRecordable, Command, IsAwaited, IsPending, IsPlain, IsReading, IsShort, IsSpoken, IsViewed, IsWanted, Outcome, Taken, Texts, Unserved, asked_by, asked_in, turn_of}
-use Rattle.dialog_laws.proofs.Lists.{all_chosen, all_joined, all_mapped, either, found_has, member_has}
+use Rattle.kept_laws.proofs.Lists.{all_chosen, all_joined, all_mapped, either, found_has, member_has}
 use Rattle.dialog_laws.proofs.Boxes.{AreStored, mail_stored}
 use Rattle.dialog_laws.proofs.Naming.{name_of_test}
 use Rattle.dialog_laws.proofs.Options.{at_has, if_has, mapped_has, then_has, when_has}
 use Rattle.dialog_laws.proofs.Spoken.{IsSaid, reading_said}
-use Rattle.dialog_laws.proofs.Steps.{few_users}
+use Rattle.cut_laws.proofs.Sizes.{few_users}
 
 -- ---- names
 

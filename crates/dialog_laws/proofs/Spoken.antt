@@ -43,7 +43,7 @@ use Rattle.imap_lines.specs.declared.verbs.MailboxVerb.TheVariants as mailbox_ve
 use Rattle.imap_lines.specs.declared.verbs.Verb.{Verb}
 use Rattle.imap_lines.specs.declared.verbs.Verb.TheVariants as verb
 use Rattle.dialog_laws.specs.ImapClient.{IsShort, IsSpoken}
-use Rattle.dialog_laws.proofs.Lists.{all_joined, member_has}
+use Rattle.kept_laws.proofs.Lists.{all_joined, member_has}
 use Rattle.dialog_laws.proofs.Options.{any_mapped, any_then, if_has, mapped_has, then_has, when_has}
 use Rattle.dialog_laws.proofs.Tokens.{Fit, octets_cons, size, sizes, sizes_cons, tokens_within, trimmed_short}
 

@@ -18,9 +18,9 @@ use Rattle.verb_core.specs.declared.mailbox.BoxId.{BoxId}
 use Rattle.verb_core.specs.declared.mailbox.Entry.{Entry}
 use Rattle.verb_core.specs.declared.mailbox.Mailbox.{Mailbox}
 use Rattle.verb_core.specs.declared.item.Act.{Act}
-use Rattle.verb_core.specs.declared.item.Act.TheVariants.{SetAlias, DropAlias, SetFilter, DropFilter, Remove, Give}
+use Rattle.verb_core.specs.declared.item.Act.TheVariants.{Give}
 use Rattle.verb_core.specs.declared.item.Deed.{Deed}
-use Rattle.verb_core.specs.declared.item.Deed.TheVariants.{Deliver, Append, Fetch, Store, Copy, List as Names, Status, Select, Expunge, Close, Create, Rename, Delete, Act as Acts, Notice}
+use Rattle.verb_core.specs.declared.item.Deed.TheVariants.{Deliver, Append, Create, Rename, Act as Acts}
 use Rattle.verb_core.specs.declared.item.Item.{Item}
 use Rattle.verb_core.specs.declared.item.Shown.{Shown}
 use Rattle.verb_core.specs.Deeds.{act_item, with_text}
@@ -59,9 +59,10 @@ use Rattle.desk_journal.proofs.Fronts.{first_alone, first_opens}
 use Rattle.desk_journal.specs.Records.{after_due, after_kept, after_record, after_records, behind, can_follow, can_keep, can_rewind, first_fore, first_state, front, goes_on, is_behind, opening_state, settled, is_formed, is_spelled, is_true, state}
 use Rattle.house_text.specs.Beginning.{can_begin}
 use Rattle.dialog_laws.specs.Ranges.{IsKeeping, IsStored, IsStoredEntry, IsStoredRow, MakesNames, names_made}
-use Rattle.dialog_laws.proofs.Lists.{all_filtered, all_joined, all_mapped, either, filter_no_longer}
+use Rattle.kept_laws.proofs.Lists.{all_filtered, all_joined, all_mapped, either, filter_no_longer}
 use Rattle.dialog_laws.proofs.Naming.{name_of_test}
-use Rattle.dialog_laws.proofs.Steps.{few_users, opening_length, opening_stored, run_stored}
+use Rattle.cut_laws.proofs.Sizes.{few_users, opening_length}
+use Rattle.dialog_laws.proofs.Steps.{opening_stored, run_stored}
 
 -- ---- choices that are made
 
@@ -214,45 +215,13 @@ module _ (first boxes : ℕ) where
   text_keys text (Deliver from to old) h = h
   text_keys text (Append mailbox flags moment old) h = h
   text_keys text (Acts (Give u mailbox old)) h = h
-  text_keys text (Notice u old) h = h
-  text_keys text (Acts (SetAlias local users)) h = h
-  text_keys text (Acts (DropAlias local)) h = h
-  text_keys text (Acts (SetFilter f)) h = h
-  text_keys text (Acts (DropFilter id)) h = h
-  text_keys text (Acts (Remove u mailbox key)) h = h
-  text_keys text (Fetch mailbox keys sets_seen shows_body) h = h
-  text_keys text (Store mailbox keys how flags) h = h
-  text_keys text (Copy mailbox keys target) h = h
-  text_keys text (Names pattern) h = h
-  text_keys text (Status mailbox) h = h
-  text_keys text (Select mailbox) h = h
-  text_keys text (Expunge mailbox keys) h = h
-  text_keys text (Close mailbox keys) h = h
-  text_keys text (Create mailbox) h = h
-  text_keys text (Rename mailbox target) h = h
-  text_keys text (Delete mailbox keys) h = h
+  text_keys text _ h = h
 
   text_names : (text : List ℕ) (d : Deed) → AllByRecursion IsName (names_made d) → AllByRecursion IsName (names_made (with_text text d))
   text_names text (Create mailbox) h = h
   text_names text (Rename mailbox target) h = h
-  text_names text (Deliver from to old) h = tt
-  text_names text (Append mailbox flags moment old) h = tt
   text_names text (Acts (Give u mailbox old)) h = tt
-  text_names text (Notice u old) h = tt
-  text_names text (Acts (SetAlias local users)) h = tt
-  text_names text (Acts (DropAlias local)) h = tt
-  text_names text (Acts (SetFilter f)) h = tt
-  text_names text (Acts (DropFilter id)) h = tt
-  text_names text (Acts (Remove u mailbox key)) h = tt
-  text_names text (Fetch mailbox keys sets_seen shows_body) h = tt
-  text_names text (Store mailbox keys how flags) h = tt
-  text_names text (Copy mailbox keys target) h = tt
-  text_names text (Names pattern) h = tt
-  text_names text (Status mailbox) h = tt
-  text_names text (Select mailbox) h = tt
-  text_names text (Expunge mailbox keys) h = tt
-  text_names text (Close mailbox keys) h = tt
-  text_names text (Delete mailbox keys) h = tt
+  text_names text _ h = tt
 
   replaced_keeping : (c : ℕ) (i : Item) (o : Option (List ℕ)) → c ≤ 4194304 → IsKeeping i → IsKeeping (replaced_by c i o)
   replaced_keeping c i None le h = h

@@ -40,7 +40,7 @@ use Rattle.kept_laws.proofs.Fields.{again_spelled}
 use Rattle.kept_laws.proofs.Fits.{AreRows, Fits, FitsAlias, FitsKeyed, FitsStamp, FitsStore}
 use Rattle.kept_laws.proofs.Lists.{all_dropped, all_taken}
 use Rattle.kept_laws.proofs.Ranged.{base_ranged}
-use Rattle.kept_laws.proofs.Rows.{run_fits}
+use Rattle.kept_laws.proofs.Stores.{run_fits}
 use Rattle.kept_laws.proofs.Sized.{Known, RowWell, all_tested, bool_fits, fit_aliases, fit_both, fit_filters, fit_reports, fit_rows, fit_shown, fit_stamps, four_fits, zipped}
 use Rattle.kept_laws.proofs.Staying.{AllHold}
 

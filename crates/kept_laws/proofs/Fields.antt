@@ -1,9 +1,9 @@
 -- The fields of an item's record, and those of its Kept without a text.
-use Rattle.std.proofs.Common.{◌≡◌, ◌==◌, ℕ, ◌+◌, ◌<◌, ◌≤◌, ◌&&◌, true, List, [], ◌++◌, length, nat_le, Option, Some, None, refl, sym, subst, arith}
+use Rattle.std.proofs.Common.{◌≡◌, ◌==◌, ℕ, ◌+◌, ◌<◌, ◌≤◌, true, List, [], ◌++◌, length, Option, Some, None, refl, sym, subst, arith}
 use Rattle.std.specs.Cmp.{first_so, second_so}
 use Rattle.std.specs.Int.{w32, w64}
 use Rattle.std.specs.List.{AllByRecursion, cons_option, list_all}
-use Rattle.std.proofs.lemmas.Bool.{leb-true, ltb-true}
+use Rattle.std.proofs.lemmas.Bool.{ltb-true}
 use Rattle.undo_base.specs.declared.keys.User.{User}
 use Rattle.undo_base.specs.declared.limits.TheConstants.{LAST_MOMENT, MOST_KEYS, MOST_RECIPIENTS}
 use Rattle.undo_base.specs.Name.{IsName}
@@ -25,6 +25,7 @@ use Rattle.verb_bytes.proofs.Forms.{cycle_moment, deed_ranged, no_rev, withdraw_
 use Rattle.verb_bytes.proofs.Puts.{first_in_range, number_in_range, others_in_range}
 use Rattle.verb_bytes.proofs.Ranges.{byte_fits, number_fits, record_kind_fits, text_fits, user_fits}
 use Rattle.mail_desk.specs.Counting.{bare_item}
+use Rattle.cut_laws.proofs.Sizes.{few_users}
 use Rattle.kept_laws.proofs.Fits.{Fits, IsAgain, IsDeedAgain, IsFour}
 use Rattle.kept_laws.proofs.Ranged.{four_ranged, list_ranged, name_ranged, shown_ranged}
 
@@ -93,20 +94,7 @@ shown_same _ = refl
 
 deed_again : (d : Deed) → are_in_range (kept_deed_fields (with_text [] d)) ≡ true → IsDeedAgain d
 deed_again (Notice u text) is = tt
-deed_again (Deliver from to text) is = is
-deed_again (Append mailbox given at text) is = is
-deed_again (Acts a) is = is
-deed_again (Fetch mailbox ks sets_seen shows_body) is = is
-deed_again (Store mailbox ks how given) is = is
-deed_again (Copy mailbox ks target) is = is
-deed_again (Names pattern) is = is
-deed_again (Status mailbox) is = is
-deed_again (Select mailbox) is = is
-deed_again (Expunge mailbox ks) is = is
-deed_again (Close mailbox ks) is = is
-deed_again (Create mailbox) is = is
-deed_again (Rename mailbox target) is = is
-deed_again (Delete mailbox ks) is = is
+deed_again _ is = is
 
 -- another text
 retold_deed : (text : List ℕ) (d : Deed) → IsDeedAgain d → IsDeedAgain (with_text text d)
@@ -114,22 +102,7 @@ retold_deed text (Notice u old) is = tt
 retold_deed text (Deliver from to old) is = is
 retold_deed text (Append mailbox given at old) is = is
 retold_deed text (Acts (Give u mailbox old)) is = is
-retold_deed text (Acts (SetAlias local users)) is = is
-retold_deed text (Acts (DropAlias local)) is = is
-retold_deed text (Acts (SetFilter f)) is = is
-retold_deed text (Acts (DropFilter id)) is = is
-retold_deed text (Acts (Remove u mailbox k)) is = is
-retold_deed text (Fetch mailbox ks sets_seen shows_body) is = is
-retold_deed text (Store mailbox ks how given) is = is
-retold_deed text (Copy mailbox ks target) is = is
-retold_deed text (Names pattern) is = is
-retold_deed text (Status mailbox) is = is
-retold_deed text (Select mailbox) is = is
-retold_deed text (Expunge mailbox ks) is = is
-retold_deed text (Close mailbox ks) is = is
-retold_deed text (Create mailbox) is = is
-retold_deed text (Rename mailbox target) is = is
-retold_deed text (Delete mailbox ks) is = is
+retold_deed text _ is = is
 
 pub retold_again : (c : ℕ) (text : List ℕ) (i : Item) → IsAgain i → IsAgain (record i { rev = c; deed = with_text text i.deed })
 retold_again c text i again = record { at = again.at; deed = retold_deed text i.deed again.deed }
@@ -241,14 +214,6 @@ withdraw_key number at key of spelled =
     name_ranged key (first_in_range (name_field key) (u32_field of) (others_in_range (moment_field at) last (others_in_range (u32_field number) (moment_field at & last) (others_in_range (record_kind 7) (u32_field number & moment_field at & last) spelled))))
 
 -- ---- its Kept
-
-pub few_users : (house : House) → is_house house ≡ true → length house.accounts ≤ 200
-few_users house is =
-    let count = nat_le 1 (length house.accounts) && nat_le (length house.accounts) 200 in
-    let known = is_known house house.postmaster in
-    let two = first_so (count && known && nat_le 2 house.first) (nat_le house.first 4194303) is in
-    let one = first_so count known (first_so (count && known) (nat_le 2 house.first) two) in
-    leb-true (length house.accounts) 200 (second_so (nat_le 1 (length house.accounts)) (nat_le (length house.accounts) 200) one)
 
 pub known_fits : (house : House) (u : User) → is_house house ≡ true → is_known house u ≡ true → are_in_range (user_field u) ≡ true
 known_fits house u is known =

@@ -4,6 +4,7 @@ pub mod NamesMade
 pub mod Ranged
 pub mod Deeds
 pub mod Rows
+pub mod Stores
 pub mod Fields
 pub mod Shows
 pub mod Reporting

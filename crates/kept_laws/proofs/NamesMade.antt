@@ -1,15 +1,16 @@
--- The names under which items put mailboxes: superiors and moved names are names.
-use Rattle.std.proofs.Common.{◌≡◌, ℕ, zero, suc, ◌+◌, ◌<◌, ◌≤◌, Bool, true, false, not, ◌&&◌, ◌||◌, cond, List, [], ◌∷◌, ◌++◌, drop, length, Option, Some, None, is_some, refl, sym, ap, ◌∙◌, subst, arith, true≢false, bytes_eq, lt-ltb, length-append, append-nil}
+-- The names under which items put mailboxes: superiors and moved names are names, and a name has fewer superiors than bytes.
+use Rattle.std.proofs.Common.{◌≡◌, ℕ, zero, suc, ◌+◌, ◌<◌, ◌≤◌, Bool, true, false, not, ◌&&◌, ◌||◌, cond, List, [], ◌∷◌, ◌++◌, map, filter, drop, length, Option, Some, None, is_some, refl, sym, ap, ◌∙◌, subst, arith, true≢false, bytes_eq, lt-ltb, length-append, append-nil}
 use Rattle.std.specs.List.{AllByRecursion, list_all, list_any, position_or_len}
 use Rattle.std.specs.Cmp.{first_so, second_so}
 use Rattle.std.specs.Cmp.Lexicographic.{bytes_decides}
+use Rattle.std.proofs.lemmas.List.{length-map}
 use Rattle.std.proofs.lemmas.List.Folds.{list_all-append}
 use Rattle.undo_base.specs.Name.{IsName, is_printable}
 use Rattle.undo_base.proofs.Names.{no_bad_byte}
-use Rattle.verb_core.specs.Names.{is_empty, is_inferior, superiors, with_superiors, moved_name}
+use Rattle.verb_core.specs.Names.{is_empty, is_inferior, is_slash, before_slashes, superiors, with_superiors, moved_name}
 use Rattle.verb_core.proofs.BoxLaws.{bytes_eq-refl}
 use Rattle.verb_core.proofs.NameLaws.{below_parts, no_superior_is_empty, shorter}
-use Rattle.kept_laws.proofs.Lists.{all_joined}
+use Rattle.kept_laws.proofs.Lists.{all_joined, filter_no_longer}
 
 -- ---- bytes that can be printed
 
@@ -72,6 +73,33 @@ superiors_named name is = each_among IsName (superiors name) (λ n above. superi
 
 pub with_superiors_named : (name : List ℕ) → IsName name → AllByRecursion IsName (with_superiors name)
 with_superiors_named name is = all_joined IsName (superiors name) (name ∷ []) (superiors_named name is) (is, tt)
+
+length_before : (name : List ℕ) → length (before_slashes name) ≤ length name
+length_before [] = omega arith
+length_before (b ∷ bs) =
+    let rest : length (before_slashes bs) ≤ length bs = length_before bs in
+    let same : length (map (λ (front : List ℕ). b ∷ front) (before_slashes bs)) ≡ length (before_slashes bs) = length-map (before_slashes bs) (λ (front : List ℕ). b ∷ front) in
+    elim (is_slash b) as (λ t. length (cond t ([] ∷ []) [] ++ map (λ (front : List ℕ). b ∷ front) (before_slashes bs)) ≤ suc (length bs)) [
+      | true ↦ omega (arith, same, rest)
+      | false ↦ omega (arith, same, rest)
+    ]
+
+-- the first byte ends none
+length_superiors : (b : ℕ) (bs : List ℕ) → length (superiors (b ∷ bs)) ≤ length bs
+length_superiors b bs =
+    let rest : length (before_slashes bs) ≤ length bs = length_before bs in
+    let same : length (map (λ (front : List ℕ). b ∷ front) (before_slashes bs)) ≡ length (before_slashes bs) = length-map (before_slashes bs) (λ (front : List ℕ). b ∷ front) in
+    let few : length (filter (λ (front : List ℕ). not (is_empty front)) (map (λ (front : List ℕ). b ∷ front) (before_slashes bs))) ≤ length (map (λ (front : List ℕ). b ∷ front) (before_slashes bs)) =
+    filter_no_longer (λ (front : List ℕ). not (is_empty front)) (map (λ (front : List ℕ). b ∷ front) (before_slashes bs)) in
+    elim (is_slash b) as (λ t. length (filter (λ (front : List ℕ). not (is_empty front)) (cond t ([] ∷ []) [] ++ map (λ (front : List ℕ). b ∷ front) (before_slashes bs))) ≤ length bs) [
+      | true ↦ omega (arith, same, rest, few)
+      | false ↦ omega (arith, same, rest, few)
+    ]
+
+-- a name and its superiors are 200 at most
+pub few_superiors : (name : List ℕ) → IsName name → length (superiors name) + 1 ≤ 200
+few_superiors [] is = let some : 1 ≤ 0 = is.some in absurd (omega (arith, some))
+few_superiors (b ∷ bs) is = let most : suc (length bs) ≤ 200 = is.most in let few : length (superiors (b ∷ bs)) ≤ length bs = length_superiors b bs in omega (arith, most, few)
 
 -- ---- moved names
 

@@ -1,10 +1,10 @@
--- A step keeps a store in the ranges of records, but for the lengths of lists.
+-- A step keeps what the entries of mailboxes have, and names of mailboxes.
 use Rattle.std.proofs.Common.{◌≡◌, ℕ, ◌+◌, ◌<◌, ◌≤◌, Bool, true, false, not, cond, ◌&&◌, ◌||◌, List, [], ◌∷◌, length, map, filter, Option, None, Some, option_map, unwrap_or, Less, Equal, Greater, refl, sym, subst, arith, true≢false, bytes_eq, nat_lt, ◌∙◌}
 use Rattle.std.specs.Prelude.{IfSome}
 use Rattle.std.specs.Cmp.{first_so, second_so}
-use Rattle.std.specs.Cmp.Lexicographic.{bytes_decides, slice_cmp}
+use Rattle.std.specs.Cmp.Lexicographic.{bytes_decides}
 use Rattle.std.specs.List.{AllByRecursion, enumerate_from, flat_map, list_any}
-use Rattle.std.specs.Ordering.{eq_by_cmp, nat_cmp}
+use Rattle.std.specs.Ordering.{eq_by_cmp}
 use Rattle.std.specs.FinMap.Entries as rows
 use Rattle.std.proofs.lemmas.Bool.{ltb-false, or_parts}
 use Rattle.undo_base.specs.declared.asks.How.{How}
@@ -13,15 +13,12 @@ use Rattle.undo_base.specs.declared.keys.Flags.{Flags}
 use Rattle.undo_base.specs.declared.keys.Key.{Key}
 use Rattle.undo_base.specs.declared.keys.User.{User}
 use Rattle.undo_base.specs.Name.{IsName}
-use Rattle.undo_base.specs.declared.limits.TheConstants.{LAST_MOMENT, MOST_NAME}
-use Rattle.verb_core.specs.declared.conf.Alias.{Alias}
-use Rattle.verb_core.specs.declared.conf.Conf.{Conf}
+use Rattle.undo_base.specs.declared.limits.TheConstants.{MOST_NAME}
 use Rattle.verb_core.specs.declared.conf.Filter.{Filter}
-use Rattle.verb_core.specs.declared.conf.House.{House}
-use Rattle.verb_core.specs.declared.item.Act.TheVariants.{SetAlias, DropAlias, SetFilter, DropFilter, Remove, Give}
+use Rattle.verb_core.specs.declared.item.Act.TheVariants.{Remove, Give}
 use Rattle.verb_core.specs.declared.item.Aim.{Aim}
 use Rattle.verb_core.specs.declared.item.Deed.{Deed}
-use Rattle.verb_core.specs.declared.item.Deed.TheVariants.{Deliver, Append, Fetch, Store, Copy, List as Names, Status, Select, Expunge, Close, Create, Rename, Delete, Act as Acts, Notice}
+use Rattle.verb_core.specs.declared.item.Deed.TheVariants.{Deliver, Append, Fetch, Store, Copy, Expunge, Close, Create, Rename, Delete, Act as Acts, Notice}
 use Rattle.verb_core.specs.declared.item.Item.{Item}
 use Rattle.verb_core.specs.declared.item.Way.TheVariants.{Plain, NoSource, Merged}
 use Rattle.verb_core.specs.declared.mailbox.BoxId.{BoxId}
@@ -34,109 +31,122 @@ use Rattle.verb_core.specs.Mailboxes.{changed, copies, emptied, entry_of, expung
 use Rattle.verb_core.specs.Names.{inbox, is_fixed, is_inferior, lost_found, moved_name, superiors, with_superiors}
 use Rattle.verb_core.specs.Filters.{deciding}
 use Rattle.verb_core.specs.Recipients.{recipients, some_unknown}
-use Rattle.verb_core.specs.Step.{Boxes, after_rename, all_created, conf_after, created, deleted, in_order, inbox_renamed, changes_nothing, is_overlong, left, message, moved, new_mail, put_at, rearranged, run, saved, step, way_of, with_alias, with_filter}
-use Rattle.verb_core.specs.Store.{MailStore, opening, users_of}
+use Rattle.verb_core.specs.Step.{Boxes, after_rename, all_created, created, deleted, inbox_renamed, changes_nothing, is_overlong, left, message, moved, new_mail, put_at, rearranged, saved, step, way_of}
+use Rattle.verb_core.specs.Store.{MailStore}
 use Rattle.verb_core.proofs.Moves.{not_below, not_in_vain}
 use Rattle.verb_core.proofs.NameLaws.{through}
-use Rattle.kept_laws.proofs.Fits.{AreEntries, AreRows, Fits, FitsAlias, FitsChange, FitsConf, FitsEntry, FitsFilter, FitsMoment, FitsRow, FitsStore, names_made}
-use Rattle.kept_laws.proofs.Deeds.{deed_fits}
+use Rattle.kept_laws.proofs.Fits.{names_made}
 use Rattle.kept_laws.proofs.Lists.{all_chosen, all_filtered, all_joined, all_mapped, either, found_has, some_mapped}
 use Rattle.kept_laws.proofs.NamesMade.{each_among, moved_named, source_moved, superiors_named, with_superiors_named}
 
--- ---- what lies in a mailbox
+-- ---- what its mailboxes' entries have
 
-pub row_has : (id : BoxId) (rs : Boxes) → AreRows rs → IfSome (row_at id rs) (λ (m : Mailbox). AreEntries m.entries)
-row_has id [] h = tt
-row_has id (r ∷ rs) h = either (λ (o : Option Mailbox). IfSome o (λ (m : Mailbox). AreEntries m.entries)) (eq_by_cmp box_cmp id r.0) (Some r.1) (row_at id rs) h.0.1 (row_has id rs h.1)
+-- a mailbox that has a name, and such entries
+abbrev pub Entries : (Entry → Type 0) → List Entry → Type 0
+Entries P es = AllByRecursion P es
 
-mail_in : (o : Option Mailbox) → IfSome o (λ (m : Mailbox). AreEntries m.entries) → AreEntries (unwrap_or (option_map (λ (m : Mailbox). m.entries) o) [])
-mail_in None h = tt
-mail_in (Some m) h = h
+abbrev pub Row : (Entry → Type 0) → BoxId × Mailbox → Type 0
+Row P r = IsName r.0.name × Entries P r.1.entries
 
-pub mail_fits : (id : BoxId) (rs : Boxes) → AreRows rs → AreEntries (mail_at id rs)
-mail_fits id rs h = mail_in (row_at id rs) (row_has id rs h)
+abbrev pub Rows : (Entry → Type 0) → Boxes → Type 0
+Rows P rs = AllByRecursion (Row P) rs
 
--- ---- entries
+abbrev Keeps : (Entry → Type 0) → (Mailbox → Mailbox) → Type 0
+Keeps P f = (m : Mailbox) → Entries P m.entries → Entries P (f m).entries
 
--- with what a mailbox has, and entries more behind it
-put_fits : (es : List Entry) (m : Mailbox) → AreEntries es → AreEntries m.entries → AreEntries (put_all es m).entries
-put_fits [] m h k = k
-put_fits (e ∷ es) m h k = put_fits es (put e m) h.1 (all_joined FitsEntry m.entries (record e { uid = m.next } ∷ []) k (h.0, tt))
+inbox_named : IsName inbox
+inbox_named = record { some = omega arith; most = omega arith; printable = refl }
 
-flagged_fits : (keys : List Key) (how : How) (flags : Flags) (es : List Entry) → AreEntries es → AreEntries (reflagged keys how flags es)
-flagged_fits keys how flags es h =
-    all_mapped FitsEntry FitsEntry _ (λ e k. either FitsEntry (is_among keys e.key) (record e { flags = changed how flags e.flags }) e k k) es h
+lost_found_named : IsName lost_found
+lost_found_named = record { some = omega arith; most = omega arith; printable = refl }
 
-expunged_fit : (keys : List Key) (es : List Entry) → AreEntries es → AreEntries (expunged keys es)
-expunged_fit keys es h = all_filtered FitsEntry (λ (e : Entry). not (is_among keys e.key && e.flags.deleted)) es h
+module _ (P : Entry → Type 0) where
+  -- ---- what lies in a mailbox
 
-without_fit : (keys : List Key) (es : List Entry) → AreEntries es → AreEntries (without keys es)
-without_fit keys es h = all_filtered FitsEntry (λ (e : Entry). not (is_among keys e.key)) es h
+  row_has : (id : BoxId) (rs : Boxes) → Rows P rs → IfSome (row_at id rs) (λ (m : Mailbox). Entries P m.entries)
+  row_has id [] h = tt
+  row_has id (r ∷ rs) h = either (λ (o : Option Mailbox). IfSome o (λ (m : Mailbox). Entries P m.entries)) (eq_by_cmp box_cmp id r.0) (Some r.1) (row_at id rs) h.0.1 (row_has id rs h.1)
 
--- ---- rows
+  mail_in : (o : Option Mailbox) → IfSome o (λ (m : Mailbox). Entries P m.entries) → Entries P (unwrap_or (option_map (λ (m : Mailbox). m.entries) o) [])
+  mail_in None h = tt
+  mail_in (Some m) h = h
 
-abbrev Keeps : (Mailbox → Mailbox) → Type 0
-Keeps f = (m : Mailbox) → AreEntries m.entries → AreEntries (f m).entries
+  pub mail_fits : (id : BoxId) (rs : Boxes) → Rows P rs → Entries P (mail_at id rs)
+  mail_fits id rs h = mail_in (row_at id rs) (row_has id rs h)
 
-changed_rows : (id : BoxId) (f : Mailbox → Mailbox) → Keeps f → (rs : Boxes) → AreRows rs → AreRows (change_row id f rs)
-changed_rows id f keeps [] h = tt
-changed_rows id f keeps (r ∷ rs) h =
-    ((h.0.0, either (λ (m : Mailbox). AreEntries m.entries) (eq_by_cmp box_cmp id r.0) (f r.1) r.1 (keeps r.1 h.0.1) h.0.1), changed_rows id f keeps rs h.1)
+  expunged_fit : (keys : List Key) (es : List Entry) → Entries P es → Entries P (expunged keys es)
+  expunged_fit keys es h = all_filtered P (λ (e : Entry). not (is_among keys e.key && e.flags.deleted)) es h
 
-added_rows : (id : BoxId) (m : Mailbox) (rs : Boxes) → IsName id.name → AreEntries m.entries → AreRows rs → AreRows (add_row id m rs)
-added_rows id m [] name stored h = ((name, stored), tt)
-added_rows id m (r ∷ rs) name stored h =
-    elim (box_cmp id r.0) as (λ o. AreRows (rows.by_order o ((id, m) ∷ r ∷ rs) ((r.0, m) ∷ rs) (r ∷ add_row id m rs))) [
-      | Less ↦ ((name, stored), h)
-      | Equal ↦ ((h.0.0, stored), h.1)
-      | Greater ↦ (h.0, added_rows id m rs name stored h.1)
-    ]
+  without_fit : (keys : List Key) (es : List Entry) → Entries P es → Entries P (without keys es)
+  without_fit keys es h = all_filtered P (λ (e : Entry). not (is_among keys e.key)) es h
 
-dropped_rows : (id : BoxId) (rs : Boxes) → AreRows rs → AreRows (drop_row id rs)
-dropped_rows id rs h = all_filtered FitsRow _ rs h
+  pub saved_fit : (u : User) (name : List ℕ) (keys : List Key) (rs : Boxes) → Rows P rs → Entries P (saved u name keys rs)
+  saved_fit u name keys rs h =
+      either (Entries P) (is_fixed name) [] (without keys (mail_at (box_of u name) rs)) tt (without_fit keys (mail_at (box_of u name) rs) (mail_fits (box_of u name) rs h))
 
--- mailboxes that are made are empty
-created_rows : (u : User) (names : List (List ℕ)) (rs : Boxes) → AllByRecursion IsName names → AreRows rs → AreRows (all_created u names rs)
-created_rows u [] rs named h = h
-created_rows u (n ∷ names) rs named h =
-    created_rows u names (created (box_of u n) rs) named.1 (either AreRows (has_row (box_of u n) rs) rs (add_row (box_of u n) no_mail rs) h (added_rows (box_of u n) no_mail rs named.0 tt h))
+  -- ---- rows
 
-left_rows : (u : User) (source : List ℕ) (rs : Boxes) → AreRows rs → AreRows (left u source rs)
-left_rows u source rs h =
-    either AreRows (bytes_eq source inbox || has_inferior u source rs) (change_row (box_of u source) emptied rs) (drop_row (box_of u source) rs) (changed_rows (box_of u source) emptied (λ m k. tt) rs h) (dropped_rows (box_of u source) rs h)
+  changed_rows : (id : BoxId) (f : Mailbox → Mailbox) → Keeps P f → (rs : Boxes) → Rows P rs → Rows P (change_row id f rs)
+  changed_rows id f keeps [] h = tt
+  changed_rows id f keeps (r ∷ rs) h =
+      ((h.0.0, either (λ (m : Mailbox). Entries P m.entries) (eq_by_cmp box_cmp id r.0) (f r.1) r.1 (keeps r.1 h.0.1) h.0.1), changed_rows id f keeps rs h.1)
 
-inbox_rows : (u : User) (target : List ℕ) (rs : Boxes) → IsName target → AreRows rs → AreRows (inbox_renamed u target rs)
-inbox_rows u target rs name h =
-    added_rows (box_of u target) (put_all (mail_at (box_of u inbox) rs) no_mail) (left u inbox rs) name (put_fits (mail_at (box_of u inbox) rs) no_mail (mail_fits (box_of u inbox) rs h) tt) (left_rows u inbox rs h)
+  added_rows : (id : BoxId) (m : Mailbox) (rs : Boxes) → IsName id.name → Entries P m.entries → Rows P rs → Rows P (add_row id m rs)
+  added_rows id m [] name stored h = ((name, stored), tt)
+  added_rows id m (r ∷ rs) name stored h =
+      elim (box_cmp id r.0) as (λ o. Rows P (rows.by_order o ((id, m) ∷ r ∷ rs) ((r.0, m) ∷ rs) (r ∷ add_row id m rs))) [
+        | Less ↦ ((name, stored), h)
+        | Equal ↦ ((h.0.0, stored), h.1)
+        | Greater ↦ (h.0, added_rows id m rs name stored h.1)
+      ]
 
-joined_rows : (cs rs : Boxes) → AreRows cs → AreRows rs → AreRows (add_rows cs rs)
-joined_rows [] rs h k = k
-joined_rows (c ∷ cs) rs h k = added_rows c.0 c.1 (add_rows cs rs) h.0.0 h.0.1 (joined_rows cs rs h.1 k)
+  dropped_rows : (id : BoxId) (rs : Boxes) → Rows P rs → Rows P (drop_row id rs)
+  dropped_rows id rs h = all_filtered (Row P) _ rs h
+
+  -- mailboxes that are made are empty
+  created_rows : (u : User) (names : List (List ℕ)) (rs : Boxes) → AllByRecursion IsName names → Rows P rs → Rows P (all_created u names rs)
+  created_rows u [] rs named h = h
+  created_rows u (n ∷ names) rs named h =
+      created_rows u names (created (box_of u n) rs) named.1 (either (Rows P) (has_row (box_of u n) rs) rs (add_row (box_of u n) no_mail rs) h (added_rows (box_of u n) no_mail rs named.0 tt h))
+
+  left_rows : (u : User) (source : List ℕ) (rs : Boxes) → Rows P rs → Rows P (left u source rs)
+  left_rows u source rs h =
+      either (Rows P) (bytes_eq source inbox || has_inferior u source rs) (change_row (box_of u source) emptied rs) (drop_row (box_of u source) rs) (changed_rows (box_of u source) emptied (λ m k. tt) rs h) (dropped_rows (box_of u source) rs h)
+
+  joined_rows : (cs rs : Boxes) → Rows P cs → Rows P rs → Rows P (add_rows cs rs)
+  joined_rows [] rs h k = k
+  joined_rows (c ∷ cs) rs h k = added_rows c.0 c.1 (add_rows cs rs) h.0.0 h.0.1 (joined_rows cs rs h.1 k)
+
+  -- ---- an opening
+
+  pub first_fit : (us : List User) → Rows P (flat_map (λ u. (box_of u inbox, no_mail) ∷ (box_of u lost_found, no_mail) ∷ []) us)
+  first_fit [] = tt
+  first_fit (u ∷ us) = ((inbox_named, tt), ((lost_found_named, tt), first_fit us))
 
 -- ---- what a RENAME moves
 
-module _ (u : User) (source target : List ℕ) (name : IsName target) where
-  -- under its new name a mailbox that moves has a name
-  abbrev FitsMoved : BoxId × Mailbox → Type 0
-  FitsMoved r = is_at_or_below u source r.0 ≡ true → IsName (moved_name source target r.0.name)
+-- under its new name a mailbox that moves has a name
+abbrev Renamed : User → List ℕ → List ℕ → BoxId × Mailbox → Type 0
+Renamed u source target r = is_at_or_below u source r.0 ≡ true → IsName (moved_name source target r.0.name)
 
-  moved_fits : (rs : Boxes) → AreRows rs → AllByRecursion FitsMoved rs → AreRows (moved u source target rs)
-  moved_fits rs h fit = joined_rows _ _ (news rs h fit) (all_filtered FitsRow (λ r. not (is_at_or_below u source r.0)) rs h)
+module _ (P : Entry → Type 0) (u : User) (source target : List ℕ) (name : IsName target) where
+  moved_fits : (rs : Boxes) → Rows P rs → AllByRecursion (Renamed u source target) rs → Rows P (moved u source target rs)
+  moved_fits rs h fit = joined_rows P _ _ (news rs h fit) (all_filtered (Row P) (λ r. not (is_at_or_below u source r.0)) rs h)
     where
-      news : (rs : Boxes) → AreRows rs → AllByRecursion FitsMoved rs → AreRows (map (λ (r : BoxId × Mailbox). (box_of u (moved_name source target r.0.name), r.1)) (filter (λ (r : BoxId × Mailbox). is_at_or_below u source r.0) rs))
+      news : (rs : Boxes) → Rows P rs → AllByRecursion (Renamed u source target) rs → Rows P (map (λ (r : BoxId × Mailbox). (box_of u (moved_name source target r.0.name), r.1)) (filter (λ (r : BoxId × Mailbox). is_at_or_below u source r.0) rs))
       news [] h fit = tt
       news (r ∷ rs) h fit =
-          elim (is_at_or_below u source r.0) as (λ b. is_at_or_below u source r.0 ≡ b → AreRows (map (λ (r : BoxId × Mailbox). (box_of u (moved_name source target r.0.name), r.1)) (cond b (r ∷ filter (λ (r : BoxId × Mailbox). is_at_or_below u source r.0) rs) (filter (λ (r : BoxId × Mailbox). is_at_or_below u source r.0) rs)))) [
+          elim (is_at_or_below u source r.0) as (λ b. is_at_or_below u source r.0 ≡ b → Rows P (map (λ (r : BoxId × Mailbox). (box_of u (moved_name source target r.0.name), r.1)) (cond b (r ∷ filter (λ (r : BoxId × Mailbox). is_at_or_below u source r.0) rs) (filter (λ (r : BoxId × Mailbox). is_at_or_below u source r.0) rs)))) [
             | true ↦ λ e. ((fit.0 e, h.0.1), news rs h.1 fit.1)
             | false ↦ λ e. news rs h.1 fit.1
           ] refl
 
   -- no inferior gets too long a name
-  short_fits : (rs : Boxes) → AreRows rs → list_any (λ n. is_inferior source n && nat_lt MOST_NAME (length (moved_name source target n))) (names_of u rs) ≡ false → AllByRecursion FitsMoved rs
+  short_fits : (rs : Boxes) → Rows P rs → list_any (λ n. is_inferior source n && nat_lt MOST_NAME (length (moved_name source target n))) (names_of u rs) ≡ false → AllByRecursion (Renamed u source target) rs
   short_fits [] h short = tt
   short_fits (r ∷ rs) h short =
       elim (same_user u r.0.user) as (λ b. same_user u r.0.user ≡ b
-      → list_any (λ n. is_inferior source n && nat_lt MOST_NAME (length (moved_name source target n))) (map (λ (q : BoxId × Mailbox). q.0.name) (cond b (r ∷ rows_of u rs) (rows_of u rs))) ≡ false → AllByRecursion FitsMoved (r ∷ rs)) [
+      → list_any (λ n. is_inferior source n && nat_lt MOST_NAME (length (moved_name source target n))) (map (λ (q : BoxId × Mailbox). q.0.name) (cond b (r ∷ rows_of u rs) (rows_of u rs))) ≡ false → AllByRecursion (Renamed u source target) (r ∷ rs)) [
         | true ↦ λ e short. (λ at. fits r.0.name h.0.0 (second_so _ _ at) (or_first _ _ short), short_fits rs h.1 (or_second _ _ short))
         | false ↦ λ e short. (λ at. absurd (true≢false (sym (first_so _ _ at) ∙ e)), short_fits rs h.1 short)
       ] refl short
@@ -156,20 +166,20 @@ module _ (u : User) (source target : List ℕ) (name : IsName target) where
             | false ↦ λ e below. moved_named source target n name is (ltb-false 200 (length (moved_name source target n)) (subst (λ (b : Bool). (b && nat_lt MOST_NAME (length (moved_name source target n))) ≡ false) below short))
           ] refl at
 
-  fits_added : (id : BoxId) (m : Mailbox) (rs : Boxes) → FitsMoved (id, m) → AllByRecursion FitsMoved rs → AllByRecursion FitsMoved (add_row id m rs)
+  fits_added : (id : BoxId) (m : Mailbox) (rs : Boxes) → Renamed u source target (id, m) → AllByRecursion (Renamed u source target) rs → AllByRecursion (Renamed u source target) (add_row id m rs)
   fits_added id m [] new h = (new, tt)
   fits_added id m (r ∷ rs) new h =
-      elim (box_cmp id r.0) as (λ o. AllByRecursion FitsMoved (rows.by_order o ((id, m) ∷ r ∷ rs) ((r.0, m) ∷ rs) (r ∷ add_row id m rs))) [
+      elim (box_cmp id r.0) as (λ o. AllByRecursion (Renamed u source target) (rows.by_order o ((id, m) ∷ r ∷ rs) ((r.0, m) ∷ rs) (r ∷ add_row id m rs))) [
         | Less ↦ (new, h)
         | Equal ↦ (h.0, h.1)
         | Greater ↦ (h.0, fits_added id m rs new h.1)
       ]
 
   -- mailboxes that are made do not move
-  fits_created : (names : List (List ℕ)) (rs : Boxes) → AllByRecursion (λ n. is_at_or_below u source (box_of u n) ≡ true → ⊥) names → AllByRecursion FitsMoved rs → AllByRecursion FitsMoved (all_created u names rs)
+  fits_created : (names : List (List ℕ)) (rs : Boxes) → AllByRecursion (λ n. is_at_or_below u source (box_of u n) ≡ true → ⊥) names → AllByRecursion (Renamed u source target) rs → AllByRecursion (Renamed u source target) (all_created u names rs)
   fits_created [] rs off h = h
   fits_created (n ∷ names) rs off h =
-      fits_created names (created (box_of u n) rs) off.1 (either (λ (ss : Boxes). AllByRecursion FitsMoved ss) (has_row (box_of u n) rs) rs (add_row (box_of u n) no_mail rs) h (fits_added (box_of u n) no_mail rs (λ at. absurd (off.0 at)) h))
+      fits_created names (created (box_of u n) rs) off.1 (either (λ (ss : Boxes). AllByRecursion (Renamed u source target) ss) (has_row (box_of u n) rs) rs (add_row (box_of u n) no_mail rs) h (fits_added (box_of u n) no_mail rs (λ at. absurd (off.0 at)) h))
 
   -- the superiors of the target are not below the source, if it is not
   superiors_off : is_inferior source target ≡ false → AllByRecursion (λ n. is_at_or_below u source (box_of u n) ≡ true → ⊥) (superiors target)
@@ -182,118 +192,11 @@ module _ (u : User) (source target : List ℕ) (name : IsName target) where
             | false ↦ λ e lower. through source n target lower above
           ] refl at
 
-plain_rows : (u : User) (source target : List ℕ) (rs : Boxes) → changes_nothing u source target rs ≡ false → has_row (box_of u target) rs ≡ false → IsName target → AreRows rs → AreRows (after_rename Plain u source target rs)
-plain_rows u source target rs sound gone name h =
-    let made : AreRows (all_created u (superiors target) rs) = created_rows u (superiors target) rs (superiors_named target name) h in
-    let known = not_in_vain u source target rs sound in
-    elim (bytes_eq source inbox) as (λ b. bytes_eq source inbox ≡ b → AreRows (cond b (inbox_renamed u target (all_created u (superiors target) rs)) (moved u source target (all_created u (superiors target) rs)))) [
-      | true ↦ λ e. inbox_rows u target (all_created u (superiors target) rs) name made
-      | false ↦ λ e. moved_fits u source target name (all_created u (superiors target) rs) made
-          (fits_created u source target name (superiors target) rs (superiors_off u source target name (not_below source target e known.4)) (short_fits u source target name rs h (short e known.5)))
-    ] refl
-  where
-    short : bytes_eq source inbox ≡ false → is_overlong u source target rs ≡ false → list_any (λ n. is_inferior source n && nat_lt MOST_NAME (length (moved_name source target n))) (names_of u rs) ≡ false
-    short e over = subst (λ (b : Bool). (not b && list_any (λ n. is_inferior source n && nat_lt MOST_NAME (length (moved_name source target n))) (names_of u rs)) ≡ false) gone
-        (subst (λ (b : Bool). (not b && not (has_row (box_of u target) rs) && list_any (λ n. is_inferior source n && nat_lt MOST_NAME (length (moved_name source target n))) (names_of u rs)) ≡ false) e over)
-
-pub saved_fit : (u : User) (name : List ℕ) (keys : List Key) (rs : Boxes) → AreRows rs → AreEntries (saved u name keys rs)
-saved_fit u name keys rs h =
-    either AreEntries (is_fixed name) [] (without keys (mail_at (box_of u name) rs)) tt (without_fit keys (mail_at (box_of u name) rs) (mail_fits (box_of u name) rs h))
-
-merged_rows : (u : User) (source target : List ℕ) (rs : Boxes) → AreRows rs → AreRows (after_rename Merged u source target rs)
-merged_rows u source target rs h =
-    changed_rows (box_of u target) (put_all (mail_at (box_of u source) rs)) (λ m k. put_fits (mail_at (box_of u source) rs) m (mail_fits (box_of u source) rs h) k) (left u source rs) (left_rows u source rs h)
-
-renamed_rows : (u : User) (source target : List ℕ) (rs : Boxes) → IsName target → AreRows rs → AreRows (after_rename (way_of u source target rs) u source target rs)
-renamed_rows u source target rs name h =
-    elim (changes_nothing u source target rs || not (has_row (box_of u source) rs)) as (λ b. (changes_nothing u source target rs || not (has_row (box_of u source) rs)) ≡ b →
-    AreRows (after_rename (cond b NoSource (cond (has_row (box_of u target) rs) Merged Plain)) u source target rs)) [
-      | true ↦ λ e. h
-      | false ↦ λ e.
-          elim (has_row (box_of u target) rs) as (λ t. has_row (box_of u target) rs ≡ t → AreRows (after_rename (cond t Merged Plain) u source target rs)) [
-            | true ↦ λ t. merged_rows u source target rs h
-            | false ↦ λ t. plain_rows u source target rs (or_parts (changes_nothing u source target rs) _ e).0 t name h
-          ] refl
-    ] refl
-
-deleted_rows : (u : User) (name : List ℕ) (keys : List Key) (rs : Boxes) → AreRows rs → AreRows (deleted u name keys rs)
-deleted_rows u name keys rs h =
-    either AreRows (is_fixed name) rs (change_row (box_of u lost_found) (put_all (saved u name keys rs)) (left u name rs)) h
-    (changed_rows (box_of u lost_found) (put_all (saved u name keys rs)) (λ m k. put_fits (saved u name keys rs) m (saved_fit u name keys rs h) k) (left u name rs) (left_rows u name rs h))
-
-rearranged_rows : (u : User) (d : Deed) (rs : Boxes) → AllByRecursion IsName (names_made d) → AreRows rs → AreRows (rearranged u d rs)
-rearranged_rows u (Fetch mailbox keys sets_seen shows_body) rs names h =
-    either AreRows sets_seen _ rs (changed_rows (box_of u mailbox) _ (λ m k. flagged_fits keys Add (record no_flags { seen = true }) m.entries k) rs h) h
-rearranged_rows u (Store mailbox keys how flags) rs names h = changed_rows (box_of u mailbox) _ (λ m k. flagged_fits keys how flags m.entries k) rs h
-rearranged_rows u (Expunge mailbox keys) rs names h = changed_rows (box_of u mailbox) _ (λ m k. expunged_fit keys m.entries k) rs h
-rearranged_rows u (Close mailbox keys) rs names h = changed_rows (box_of u mailbox) _ (λ m k. expunged_fit keys m.entries k) rs h
-rearranged_rows u (Create mailbox) rs names h = either AreRows (has_row (box_of u mailbox) rs) rs (all_created u (with_superiors mailbox) rs) h (created_rows u (with_superiors mailbox) rs (with_superiors_named mailbox names.0) h)
-rearranged_rows u (Rename mailbox target) rs names h = renamed_rows u mailbox target rs names.0 h
-rearranged_rows u (Delete mailbox keys) rs names h = deleted_rows u mailbox keys rs h
-rearranged_rows u (Acts (Remove w mailbox key)) rs names h = changed_rows (box_of u mailbox) _ (λ m k. without_fit (key ∷ []) m.entries k) rs h
-rearranged_rows u (Acts (SetAlias local users)) rs names h = h
-rearranged_rows u (Acts (DropAlias local)) rs names h = h
-rearranged_rows u (Acts (SetFilter f)) rs names h = h
-rearranged_rows u (Acts (DropFilter id)) rs names h = h
-rearranged_rows u (Acts (Give w mailbox text)) rs names h = h
-rearranged_rows u (Deliver from to text) rs names h = h
-rearranged_rows u (Append mailbox flags moment text) rs names h = h
-rearranged_rows u (Copy mailbox keys target) rs names h = h
-rearranged_rows u (Names pattern) rs names h = h
-rearranged_rows u (Status mailbox) rs names h = h
-rearranged_rows u (Select mailbox) rs names h = h
-rearranged_rows u (Notice w text) rs names h = h
-
--- ---- new mail
+-- ---- aims
 
 -- an index that two bytes hold
 abbrev IsIndex : Aim → Type 0
 IsIndex a = a.index < 65536
-
-message_is : (i : Item) (index : ℕ) (flags : Flags) (at : ℕ) → Fits i → at ≤ LAST_MOMENT → index < 65536 → FitsEntry (message i index flags at)
-message_is i index flags at fits le lt = ((omega (arith, fits.number), lt), fits.rev, le)
-
-abbrev IsCounted : ℕ × Key → Type 0
-IsCounted k = k.0 < 65536
-
-counted : (n : ℕ) (keys : List Key) → n + length keys ≤ 65536 → AllByRecursion IsCounted (enumerate_from n keys)
-counted n [] le = tt
-counted n (key ∷ keys) le = (omega (arith, le), counted (n + 1) keys (omega (arith, le)))
-
-copies_fit : (number : ℕ) (es : List Entry) (keys : List Key) → number ≤ 4294967295 → length keys ≤ 65536 → AreEntries es → AreEntries (copies number es keys)
-copies_fit number es keys le few h =
-    all_chosen IsCounted FitsEntry _
-    (λ k lt. some_mapped FitsEntry FitsEntry (λ (e : Entry). record e { key = record { item = number; index = k.0 } }) (entry_of es k.1) (λ e is. ((omega (arith, le), lt), is.1, is.2)) (found_has FitsEntry (λ (e : Entry). same_key k.1 e.key) es h))
-    (enumerate_from 0 keys) (counted 0 keys (omega (arith, few)))
-
-mail_is : (u : User) (i : Item) (rs : Boxes) (index : ℕ) (d : Deed) → Fits i → length (keys_in d) ≤ 65536 → FitsMoment d → index < 65536 → AreRows rs → AreEntries (new_mail u i rs index d)
-mail_is u i rs index (Deliver from to text) fits few moment lt h = (message_is i index no_flags i.at fits fits.again.at lt, tt)
-mail_is u i rs index (Append mailbox flags at text) fits few moment lt h = (message_is i index flags at fits moment lt, tt)
-mail_is u i rs index (Copy mailbox keys target) fits few moment lt h = copies_fit i.number (mail_at (box_of u mailbox) rs) keys fits.number few (mail_fits (box_of u mailbox) rs h)
-mail_is u i rs index (Acts (Give w mailbox text)) fits few moment lt h = (message_is i index no_flags i.at fits fits.again.at lt, tt)
-mail_is u i rs index (Notice w text) fits few moment lt h = (message_is i index no_flags i.at fits fits.again.at lt, tt)
-mail_is u i rs index (Acts (SetAlias local users)) fits few moment lt h = tt
-mail_is u i rs index (Acts (DropAlias local)) fits few moment lt h = tt
-mail_is u i rs index (Acts (SetFilter f)) fits few moment lt h = tt
-mail_is u i rs index (Acts (DropFilter id)) fits few moment lt h = tt
-mail_is u i rs index (Acts (Remove w mailbox key)) fits few moment lt h = tt
-mail_is u i rs index (Fetch mailbox keys sets_seen shows_body) fits few moment lt h = tt
-mail_is u i rs index (Store mailbox keys how flags) fits few moment lt h = tt
-mail_is u i rs index (Names pattern) fits few moment lt h = tt
-mail_is u i rs index (Status mailbox) fits few moment lt h = tt
-mail_is u i rs index (Select mailbox) fits few moment lt h = tt
-mail_is u i rs index (Expunge mailbox keys) fits few moment lt h = tt
-mail_is u i rs index (Close mailbox keys) fits few moment lt h = tt
-mail_is u i rs index (Create mailbox) fits few moment lt h = tt
-mail_is u i rs index (Rename mailbox target) fits few moment lt h = tt
-mail_is u i rs index (Delete mailbox keys) fits few moment lt h = tt
-
-put_rows : (mail : ℕ → List Entry) → ((index : ℕ) → index < 65536 → AreEntries (mail index)) → (aims : List Aim) (rs : Boxes) → AllByRecursion IsIndex aims → AreRows rs → AreRows (put_at mail aims rs)
-put_rows mail stored [] rs few h = h
-put_rows mail stored (a ∷ aims) rs few h =
-    put_rows mail stored aims (change_row (box_aimed a) (put_all (mail a.index)) rs) few.1 (changed_rows (box_aimed a) (put_all (mail a.index)) (λ m k. put_fits (mail a.index) m (stored a.index few.0) k) rs h)
-
--- ---- aims
 
 into_is : (rs : Boxes) (name other : List ℕ) (us : List User) → AllByRecursion IsIndex (into_or rs name other us).aims
 into_is rs name other [] = tt
@@ -313,85 +216,108 @@ sought_is s text by (Append mailbox flags moment _) = (omega arith, tt)
 sought_is s text by (Copy mailbox keys target) = (omega arith, tt)
 sought_is s text by (Acts (Give u mailbox _)) = (omega arith, tt)
 sought_is s text by (Notice u _) = (omega arith, tt)
-sought_is s text by (Acts (SetAlias local users)) = tt
-sought_is s text by (Acts (DropAlias local)) = tt
-sought_is s text by (Acts (SetFilter f)) = tt
-sought_is s text by (Acts (DropFilter id)) = tt
-sought_is s text by (Acts (Remove w mailbox key)) = tt
-sought_is s text by (Fetch mailbox keys sets_seen shows_body) = tt
-sought_is s text by (Store mailbox keys how flags) = tt
-sought_is s text by (Names pattern) = tt
-sought_is s text by (Status mailbox) = tt
-sought_is s text by (Select mailbox) = tt
-sought_is s text by (Expunge mailbox keys) = tt
-sought_is s text by (Close mailbox keys) = tt
-sought_is s text by (Create mailbox) = tt
-sought_is s text by (Rename mailbox target) = tt
-sought_is s text by (Delete mailbox keys) = tt
+sought_is s text by _ = tt
 
-step_rows : (s : MailStore) (i : Item) → AreRows s.boxes → Fits i → AreRows (step s i).0.boxes
-step_rows s i h fits =
-    let deed = deed_fits i.deed fits.again.deed in
-    put_rows (λ index. new_mail (actor i.by i.deed) i s.boxes index i.deed) (λ index lt. mail_is (actor i.by i.deed) i s.boxes index i.deed fits deed.few deed.moment lt h) (sought_by s i).aims
-    (rearranged (actor i.by i.deed) i.deed s.boxes) (sought_is s (unwrap_or (text_in i.deed) []) i.by i.deed) (rearranged_rows (actor i.by i.deed) i.deed s.boxes deed.names h)
+-- ---- new mail
 
--- ---- the configuration
+abbrev IsCounted : ℕ × Key → Type 0
+IsCounted k = k.0 < 65536
 
-with_alias_fits : (new : Alias) (as_ : List Alias) → FitsAlias new → AllByRecursion FitsAlias as_ → AllByRecursion FitsAlias (with_alias new as_)
-with_alias_fits new [] own h = (own, tt)
-with_alias_fits new (a ∷ rest) own h =
-    elim (slice_cmp nat_cmp new.local a.local) as (λ o. AllByRecursion FitsAlias (rows.by_order o (new ∷ a ∷ rest) (new ∷ rest) (a ∷ with_alias new rest))) [
-      | Less ↦ (own, h)
-      | Equal ↦ (own, h.1)
-      | Greater ↦ (h.0, with_alias_fits new rest own h.1)
-    ]
+counted : (n : ℕ) (keys : List Key) → n + length keys ≤ 65536 → AllByRecursion IsCounted (enumerate_from n keys)
+counted n [] le = tt
+counted n (key ∷ keys) le = (omega (arith, le), counted (n + 1) keys (omega (arith, le)))
 
-with_filter_fits : (f : Filter) (gs : List Filter) → FitsFilter f → AllByRecursion FitsFilter gs → AllByRecursion FitsFilter (with_filter f gs)
-with_filter_fits f [] own h = (own, tt)
-with_filter_fits f (g ∷ gs) own h = either (λ (fs : List Filter). AllByRecursion FitsFilter fs) (bytes_eq f.id g.id) (f ∷ gs) (g ∷ with_filter f gs) (own, h.1) (h.0, with_filter_fits f gs own h.1)
+-- the moment of the mail that an item puts
+abbrev pub moment_of : ℕ → Deed → ℕ
+moment_of at (Append mailbox flags moment text) = moment
+moment_of at _ = at
 
-conf_fits : (house : House) (d : Deed) (conf : Conf) → FitsChange d → FitsConf conf → FitsConf (conf_after house d conf)
-conf_fits house (Acts (SetAlias local users)) conf change h =
-    let new : Alias = record { local = local; users = in_order house users } in
-    record { aliases = with_alias_fits new conf.aliases change h.aliases; filters = h.filters }
-conf_fits house (Acts (DropAlias local)) conf change h = record { aliases = all_filtered FitsAlias (λ (a : Alias). not (bytes_eq local a.local)) conf.aliases h.aliases; filters = h.filters }
-conf_fits house (Acts (SetFilter f)) conf change h = record { aliases = h.aliases; filters = with_filter_fits f conf.filters change h.filters }
-conf_fits house (Acts (DropFilter id)) conf change h = record { aliases = h.aliases; filters = all_filtered FitsFilter (λ (f : Filter). not (bytes_eq id f.id)) conf.filters h.filters }
-conf_fits house (Acts (Remove w mailbox key)) conf change h = h
-conf_fits house (Acts (Give w mailbox text)) conf change h = h
-conf_fits house (Deliver from to text) conf change h = h
-conf_fits house (Append mailbox flags moment text) conf change h = h
-conf_fits house (Copy mailbox keys target) conf change h = h
-conf_fits house (Notice w text) conf change h = h
-conf_fits house (Fetch mailbox keys sets_seen shows_body) conf change h = h
-conf_fits house (Store mailbox keys how flags) conf change h = h
-conf_fits house (Names pattern) conf change h = h
-conf_fits house (Status mailbox) conf change h = h
-conf_fits house (Select mailbox) conf change h = h
-conf_fits house (Expunge mailbox keys) conf change h = h
-conf_fits house (Close mailbox keys) conf change h = h
-conf_fits house (Create mailbox) conf change h = h
-conf_fits house (Rename mailbox target) conf change h = h
-conf_fits house (Delete mailbox keys) conf change h = h
+-- ---- a step
 
--- ---- a store
+-- What an entry has stays with it under another UID and with other flags, comes to a copy, and comes to new mail whose moment is such a one.
+module _ (P : Entry → Type 0) (T : ℕ → Type 0)
+    (same : (e : Entry) (uid : ℕ) (flags : Flags) → P e → P (record e { uid = uid; flags = flags }))
+    (again : (e : Entry) (number index : ℕ) → number ≤ 4294967295 → index < 65536 → P e → P (record e { key = record { item = number; index = index } }))
+    (fresh : (i : Item) (index : ℕ) (flags : Flags) (at : ℕ) → i.number ≤ 4294967295 → i.rev ≤ 4294967295 → index < 65536 → T at → P (message i index flags at)) where
+  put_fits : (es : List Entry) (m : Mailbox) → Entries P es → Entries P m.entries → Entries P (put_all es m).entries
+  put_fits [] m h k = k
+  put_fits (e ∷ es) m h k = put_fits es (put e m) h.1 (all_joined P m.entries (record e { uid = m.next } ∷ []) k (same e m.next e.flags h.0, tt))
 
-pub step_fits : (s : MailStore) (i : Item) → FitsStore s → Fits i → FitsStore (step s i).0
-step_fits s i h fits = record { rows = step_rows s i h.rows fits; conf = conf_fits s.house i.deed s.conf (deed_fits i.deed fits.again.deed).change h.conf }
+  flagged_fits : (keys : List Key) (how : How) (flags : Flags) (es : List Entry) → Entries P es → Entries P (reflagged keys how flags es)
+  flagged_fits keys how flags es h =
+      all_mapped P P _ (λ e k. either P (is_among keys e.key) (record e { flags = changed how flags e.flags }) e (same e e.uid (changed how flags e.flags) k) k) es h
 
-pub run_fits : (base : MailStore) (t : List Item) → FitsStore base → AllByRecursion Fits t → FitsStore (run base t)
-run_fits base [] h all = h
-run_fits base (i ∷ is) h all = run_fits (step base i).0 is (step_fits base i h all.0) all.1
+  inbox_rows : (u : User) (target : List ℕ) (rs : Boxes) → IsName target → Rows P rs → Rows P (inbox_renamed u target rs)
+  inbox_rows u target rs name h =
+      added_rows P (box_of u target) (put_all (mail_at (box_of u inbox) rs) no_mail) (left u inbox rs) name (put_fits (mail_at (box_of u inbox) rs) no_mail (mail_fits P (box_of u inbox) rs h) tt) (left_rows P u inbox rs h)
 
-inbox_named : IsName inbox
-inbox_named = record { some = omega arith; most = omega arith; printable = refl }
+  plain_rows : (u : User) (source target : List ℕ) (rs : Boxes) → changes_nothing u source target rs ≡ false → has_row (box_of u target) rs ≡ false → IsName target → Rows P rs → Rows P (after_rename Plain u source target rs)
+  plain_rows u source target rs sound gone name h =
+      let made : Rows P (all_created u (superiors target) rs) = created_rows P u (superiors target) rs (superiors_named target name) h in
+      let known = not_in_vain u source target rs sound in
+      elim (bytes_eq source inbox) as (λ b. bytes_eq source inbox ≡ b → Rows P (cond b (inbox_renamed u target (all_created u (superiors target) rs)) (moved u source target (all_created u (superiors target) rs)))) [
+        | true ↦ λ e. inbox_rows u target (all_created u (superiors target) rs) name made
+        | false ↦ λ e. moved_fits P u source target name (all_created u (superiors target) rs) made
+            (fits_created P u source target name (superiors target) rs (superiors_off P u source target name (not_below source target e known.4)) (short_fits P u source target name rs h (short e known.5)))
+      ] refl
+    where
+      short : bytes_eq source inbox ≡ false → is_overlong u source target rs ≡ false → list_any (λ n. is_inferior source n && nat_lt MOST_NAME (length (moved_name source target n))) (names_of u rs) ≡ false
+      short e over = subst (λ (b : Bool). (not b && list_any (λ n. is_inferior source n && nat_lt MOST_NAME (length (moved_name source target n))) (names_of u rs)) ≡ false) gone
+          (subst (λ (b : Bool). (not b && not (has_row (box_of u target) rs) && list_any (λ n. is_inferior source n && nat_lt MOST_NAME (length (moved_name source target n))) (names_of u rs)) ≡ false) e over)
 
-lost_found_named : IsName lost_found
-lost_found_named = record { some = omega arith; most = omega arith; printable = refl }
+  merged_rows : (u : User) (source target : List ℕ) (rs : Boxes) → Rows P rs → Rows P (after_rename Merged u source target rs)
+  merged_rows u source target rs h =
+      changed_rows P (box_of u target) (put_all (mail_at (box_of u source) rs)) (λ m k. put_fits (mail_at (box_of u source) rs) m (mail_fits P (box_of u source) rs h) k) (left u source rs) (left_rows P u source rs h)
 
-first_fit : (us : List User) → AreRows (flat_map (λ u. (box_of u inbox, no_mail) ∷ (box_of u lost_found, no_mail) ∷ []) us)
-first_fit [] = tt
-first_fit (u ∷ us) = ((inbox_named, tt), ((lost_found_named, tt), first_fit us))
+  renamed_rows : (u : User) (source target : List ℕ) (rs : Boxes) → IsName target → Rows P rs → Rows P (after_rename (way_of u source target rs) u source target rs)
+  renamed_rows u source target rs name h =
+      elim (changes_nothing u source target rs || not (has_row (box_of u source) rs)) as (λ b. (changes_nothing u source target rs || not (has_row (box_of u source) rs)) ≡ b →
+      Rows P (after_rename (cond b NoSource (cond (has_row (box_of u target) rs) Merged Plain)) u source target rs)) [
+        | true ↦ λ e. h
+        | false ↦ λ e.
+            elim (has_row (box_of u target) rs) as (λ t. has_row (box_of u target) rs ≡ t → Rows P (after_rename (cond t Merged Plain) u source target rs)) [
+              | true ↦ λ t. merged_rows u source target rs h
+              | false ↦ λ t. plain_rows u source target rs (or_parts (changes_nothing u source target rs) _ e).0 t name h
+            ] refl
+      ] refl
 
-pub opening_fits : (house : House) (conf : Conf) → FitsConf conf → FitsStore (opening house conf)
-opening_fits house conf h = record { rows = first_fit (users_of house); conf = h }
+  deleted_rows : (u : User) (name : List ℕ) (keys : List Key) (rs : Boxes) → Rows P rs → Rows P (deleted u name keys rs)
+  deleted_rows u name keys rs h =
+      either (Rows P) (is_fixed name) rs (change_row (box_of u lost_found) (put_all (saved u name keys rs)) (left u name rs)) h
+      (changed_rows P (box_of u lost_found) (put_all (saved u name keys rs)) (λ m k. put_fits (saved u name keys rs) m (saved_fit P u name keys rs h) k) (left u name rs) (left_rows P u name rs h))
+
+  rearranged_rows : (u : User) (d : Deed) (rs : Boxes) → AllByRecursion IsName (names_made d) → Rows P rs → Rows P (rearranged u d rs)
+  rearranged_rows u (Fetch mailbox keys sets_seen shows_body) rs names h =
+      either (Rows P) sets_seen _ rs (changed_rows P (box_of u mailbox) _ (λ m k. flagged_fits keys Add (record no_flags { seen = true }) m.entries k) rs h) h
+  rearranged_rows u (Store mailbox keys how flags) rs names h = changed_rows P (box_of u mailbox) _ (λ m k. flagged_fits keys how flags m.entries k) rs h
+  rearranged_rows u (Expunge mailbox keys) rs names h = changed_rows P (box_of u mailbox) _ (λ m k. expunged_fit P keys m.entries k) rs h
+  rearranged_rows u (Close mailbox keys) rs names h = changed_rows P (box_of u mailbox) _ (λ m k. expunged_fit P keys m.entries k) rs h
+  rearranged_rows u (Create mailbox) rs names h = either (Rows P) (has_row (box_of u mailbox) rs) rs (all_created u (with_superiors mailbox) rs) h (created_rows P u (with_superiors mailbox) rs (with_superiors_named mailbox names.0) h)
+  rearranged_rows u (Rename mailbox target) rs names h = renamed_rows u mailbox target rs names.0 h
+  rearranged_rows u (Delete mailbox keys) rs names h = deleted_rows u mailbox keys rs h
+  rearranged_rows u (Acts (Remove w mailbox key)) rs names h = changed_rows P (box_of u mailbox) _ (λ m k. without_fit P (key ∷ []) m.entries k) rs h
+  rearranged_rows u _ rs names h = h
+
+  copies_fit : (number : ℕ) (es : List Entry) (keys : List Key) → number ≤ 4294967295 → length keys ≤ 65536 → Entries P es → Entries P (copies number es keys)
+  copies_fit number es keys le few h =
+      all_chosen IsCounted P _
+      (λ k lt. some_mapped P P (λ (e : Entry). record e { key = record { item = number; index = k.0 } }) (entry_of es k.1) (λ e is. again e number k.0 le lt is) (found_has P (λ (e : Entry). same_key k.1 e.key) es h))
+      (enumerate_from 0 keys) (counted 0 keys (omega (arith, few)))
+
+  mail_is : (u : User) (i : Item) (rs : Boxes) (index : ℕ) (d : Deed) → i.number ≤ 4294967295 → i.rev ≤ 4294967295 → T (moment_of i.at d) → length (keys_in d) ≤ 65536 → index < 65536 → Rows P rs → Entries P (new_mail u i rs index d)
+  mail_is u i rs index (Deliver from to text) number rev moment few lt h = (fresh i index no_flags i.at number rev lt moment, tt)
+  mail_is u i rs index (Append mailbox flags at text) number rev moment few lt h = (fresh i index flags at number rev lt moment, tt)
+  mail_is u i rs index (Copy mailbox keys target) number rev moment few lt h = copies_fit i.number (mail_at (box_of u mailbox) rs) keys number few (mail_fits P (box_of u mailbox) rs h)
+  mail_is u i rs index (Acts (Give w mailbox text)) number rev moment few lt h = (fresh i index no_flags i.at number rev lt moment, tt)
+  mail_is u i rs index (Notice w text) number rev moment few lt h = (fresh i index no_flags i.at number rev lt moment, tt)
+  mail_is u i rs index _ number rev moment few lt h = tt
+
+  put_rows : (mail : ℕ → List Entry) → ((index : ℕ) → index < 65536 → Entries P (mail index)) → (aims : List Aim) (rs : Boxes) → AllByRecursion IsIndex aims → Rows P rs → Rows P (put_at mail aims rs)
+  put_rows mail stored [] rs few h = h
+  put_rows mail stored (a ∷ aims) rs few h =
+      put_rows mail stored aims (change_row (box_aimed a) (put_all (mail a.index)) rs) few.1 (changed_rows P (box_aimed a) (put_all (mail a.index)) (λ m k. put_fits (mail a.index) m (stored a.index few.0) k) rs h)
+
+  pub step_rows : (s : MailStore) (i : Item) → Rows P s.boxes → i.number ≤ 4294967295 → i.rev ≤ 4294967295 → T (moment_of i.at i.deed) → length (keys_in i.deed) ≤ 65536 → AllByRecursion IsName (names_made i.deed) → Rows P (step s i).0.boxes
+  step_rows s i h number rev moment few names =
+      put_rows (λ index. new_mail (actor i.by i.deed) i s.boxes index i.deed) (λ index lt. mail_is (actor i.by i.deed) i s.boxes index i.deed number rev moment few lt h) (sought_by s i).aims
+      (rearranged (actor i.by i.deed) i.deed s.boxes) (sought_is s (unwrap_or (text_in i.deed) []) i.by i.deed) (rearranged_rows (actor i.by i.deed) i.deed s.boxes names h)

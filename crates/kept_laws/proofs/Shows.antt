@@ -29,7 +29,8 @@ use Rattle.cycle_rules.specs.Judging.{shown_after, shown_by}
 use Rattle.kept_laws.proofs.Fits.{AreEntries, AreRows, Fits, FitsAnswer, FitsEntry, FitsRow, FitsShown, FitsStore}
 use Rattle.kept_laws.proofs.Deeds.{deed_fits}
 use Rattle.kept_laws.proofs.Lists.{all_chosen, all_dropped, all_filtered, all_mapped, found_has, some_mapped}
-use Rattle.kept_laws.proofs.Rows.{mail_fits, saved_fit, step_fits}
+use Rattle.kept_laws.proofs.Rows.{mail_fits, saved_fit}
+use Rattle.kept_laws.proofs.Stores.{step_fits}
 
 -- ---- what a step shows
 
@@ -47,7 +48,7 @@ names_fit u rs h = all_mapped FitsRow IsName (λ (r : BoxId × Mailbox). r.0.nam
 
 shown_fits : (redirected : Bool) (u : User) (d : Deed) (rs : Boxes) → AllByRecursion IsKey (keys_in d) → AreRows rs → FitsAnswer (shown redirected u d rs)
 shown_fits redirected u (Append mailbox flags moment text) rs k h = tt
-shown_fits redirected u (Fetch mailbox keys sets_seen shows_body) rs k h = sights_fit (mail_at (box_of u mailbox) rs) keys (mail_fits (box_of u mailbox) rs h) k
+shown_fits redirected u (Fetch mailbox keys sets_seen shows_body) rs k h = sights_fit (mail_at (box_of u mailbox) rs) keys (mail_fits FitsEntry (box_of u mailbox) rs h) k
 shown_fits redirected u (Store mailbox keys how flags) rs k h = there_fit (mail_at (box_of u mailbox) rs) keys k
 shown_fits redirected u (Copy mailbox keys target) rs k h = there_fit (mail_at (box_of u mailbox) rs) keys k
 shown_fits redirected u (Names pattern) rs k h = all_filtered IsName (is_listed pattern) (names_of u rs) (names_fit u rs h)
@@ -56,7 +57,7 @@ shown_fits redirected u (Select mailbox) rs k h = tt
 shown_fits redirected u (Expunge mailbox keys) rs k h = there_fit (expunged keys (mail_at (box_of u mailbox) rs)) keys k
 shown_fits redirected u (Close mailbox keys) rs k h = there_fit (expunged keys (mail_at (box_of u mailbox) rs)) keys k
 shown_fits redirected u (Rename mailbox target) rs k h = tt
-shown_fits redirected u (Delete mailbox keys) rs k h = all_mapped FitsEntry IsKey (λ (e : Entry). e.key) (λ e is. is.0) (saved u mailbox keys rs) (saved_fit u mailbox keys rs h)
+shown_fits redirected u (Delete mailbox keys) rs k h = all_mapped FitsEntry IsKey (λ (e : Entry). e.key) (λ e is. is.0) (saved u mailbox keys rs) (saved_fit FitsEntry u mailbox keys rs h)
 shown_fits redirected u (Deliver from to text) rs k h = tt
 shown_fits redirected u (Create mailbox) rs k h = tt
 shown_fits redirected u (Acts (SetAlias local users)) rs k h = tt

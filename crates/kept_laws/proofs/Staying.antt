@@ -42,7 +42,7 @@ use Rattle.kept_laws.proofs.Fields.{CycleFits, cycle_fits, kept_fits, operator_f
 use Rattle.kept_laws.proofs.Lists.{all_dropped, all_filtered, all_joined, all_mapped, all_taken, either, found_has}
 use Rattle.kept_laws.proofs.Ranged.{base_ranged, format_ranged}
 use Rattle.kept_laws.proofs.Reporting.{notices_fit, put_fits, report_fits, unmatched_fit}
-use Rattle.kept_laws.proofs.Rows.{opening_fits, run_fits}
+use Rattle.kept_laws.proofs.Stores.{opening_fits, run_fits}
 use Rattle.kept_laws.proofs.Shows.{after_fits, answers_fit}
 
 -- ---- choices that are made
