@@ -18,7 +18,7 @@ use Rattle.privacy_laws.proofs.OwnEvents.{SameLeft, event_left}
 -- ---- a snapshot
 
 -- a desk is one behind a snapshot
-snapped_desk : (k : Kept) → IsDesk k → IsDesk (snapshotted k)
+pub snapped_desk : (k : Kept) → IsDesk k → IsDesk (snapshotted k)
 snapped_desk k d = record {
   house = d.house;
   aliases = d.aliases;
@@ -196,11 +196,11 @@ grouped : (xs ys zs : List LinkNote) → (xs ++ ys) ++ zs ≡ xs ++ (ys ++ zs)
 grouped [] ys zs = refl
 grouped (x ∷ xs) ys zs = ap (λ (l : List LinkNote). x ∷ l) (grouped xs ys zs)
 
-run_state : (is more : List Step) (s : State) → (run (is ++ more) s).state ≡ (run more (run is s).state).state
+pub run_state : (is more : List Step) (s : State) → (run (is ++ more) s).state ≡ (run more (run is s).state).state
 run_state [] more s = refl
 run_state (i ∷ is) more s = run_state is more (behind i s)
 
-run_notes : (is more : List Step) (s : State) → (run (is ++ more) s).notes ≡ (run is s).notes ++ (run more (run is s).state).notes
+pub run_notes : (is more : List Step) (s : State) → (run (is ++ more) s).notes ≡ (run is s).notes ++ (run more (run is s).state).notes
 run_notes [] more s = refl
 run_notes (i ∷ is) more s =
     let o : Outcome = happens i.hindrances s i.event in

@@ -45,12 +45,12 @@ so_not true r h = cc
 so_not false r h = refl
 
 -- what is known of it
-record IsLive (s : MailStore) (number at : ℕ) (by : Option User) (ask : Ask) (item : Item) : Type 0 where
-  is : item ≡ answered s (asked_item s number at by ask)
-  few : key_count s by ask ≤ 65536
-  left : (number == 4194304) ≡ false
+pub record IsLive (s : MailStore) (number at : ℕ) (by : Option User) (ask : Ask) (item : Item) : Type 0 where
+  pub is : item ≡ answered s (asked_item s number at by ask)
+  pub few : key_count s by ask ≤ 65536
+  pub left : (number == 4194304) ≡ false
 
-is_live : (s : MailStore) (number at : ℕ) (by : Option User) (ask : Ask) (deep : Bool) (item : Item) → live s number at by ask deep ≡ Ok item → IsLive s number at by ask item
+pub is_live : (s : MailStore) (number at : ℕ) (by : Option User) (ask : Ask) (deep : Bool) (item : Item) → live s number at by ask deep ≡ Ok item → IsLive s number at by ask item
 is_live s number at by ask deep item e =
     let i : Item = asked_item s number at by ask in
     let free = not_refused (refusal s number at by ask deep) (answered s i) item e in
@@ -85,12 +85,12 @@ module _ (s : MailStore) (number at : ℕ) (by : Option User) where
   formed (Deliver from to text) = refl
   formed _ = refl
 
-  its_actor : (u : User) (a : Ask) → is_users a ≡ true → actor (Some u) (deed_of s by at a) ≡ u
+  pub its_actor : (u : User) (a : Ask) → is_users a ≡ true → actor (Some u) (deed_of s by at a) ≡ u
   its_actor u (Deliver from to text) users = absurd (true≢false (sym users))
   its_actor u _ users = refl
 
 -- an item that a user asks for is well-formed
-item_formed : (s : MailStore) (number at : ℕ) (u : User) (ask : Ask) → is_users ask ≡ true → is_known s.house u ≡ true → key_count s (Some u) ask ≤ 65536
+pub item_formed : (s : MailStore) (number at : ℕ) (u : User) (ask : Ask) → is_users ask ≡ true → is_known s.house u ≡ true → key_count s (Some u) ask ≤ 65536
     → IsWellFormed s.house (answered s (asked_item s number at (Some u) ask))
 item_formed s number at u ask users known few = record {
   by = sym (own s number at (Some u) ask ∙ users);
@@ -99,7 +99,7 @@ item_formed s number at u ask users known few = record {
   form = formed s number at (Some u) ask;
 }
 
-below_last : (n : ℕ) → n ≤ 4194304 → (n == 4194304) ≡ false → n < 4194304
+pub below_last : (n : ℕ) → n ≤ 4194304 → (n == 4194304) ≡ false → n < 4194304
 below_last n le other = let apart : n ≢ 4194304 = λ e. true≢false (sym (eq-eqb n 4194304 e) ∙ other) in omega arith
 
 -- ---- what becomes of it

@@ -1,5 +1,5 @@
 -- The strings of an event that are for one connection.
-use Rattle.std.proofs.Common.{◌≡◌, ◌≢◌, ℕ, ◌==◌, eqb-true, true≢false, Bool, true, false, ◌||◌, cond, filter, List, [], ◌∷◌, ◌++◌, Option, None, Some, refl, ap, ap₂, sym, ◌∙◌}
+use Rattle.std.proofs.Common.{◌≡◌, ℕ, ◌==◌, eqb-true, true≢false, Bool, true, false, ◌||◌, cond, filter, List, [], ◌∷◌, ◌++◌, Option, None, Some, refl, ap, ap₂, sym, ◌∙◌}
 use Rattle.std.specs.BTreeMap.{is_at}
 use Rattle.std.specs.List.{list_any, cons_option}
 use Rattle.std.specs.Map.{remove_entry}
@@ -137,14 +137,14 @@ either_false : (a b : Bool) → (a || b) ≡ false → (a ≡ false) × (b ≡ f
 either_false true b none = absurd (true≢false none)
 either_false false b none = (refl, none)
 
-abbrev users : User → Option User → List User → Bool
+abbrev pub users : User → Option User → List User → Bool
 users u o rest = list_any (same_user u) (cons_option o rest)
 
 pub rest_unused : (u : User) (o : Option User) (rest : List User) → users u o rest ≡ false → list_any (same_user u) rest ≡ false
 rest_unused u None rest none = none
 rest_unused u (Some v) rest none = (either_false (same_user u v) (list_any (same_user u) rest) none).1
 
-same_rest : (u : User) (o : Option User) (rest rest' : List User) → users u o rest ≡ false → list_any (same_user u) rest' ≡ false → users u o rest' ≡ false
+pub same_rest : (u : User) (o : Option User) (rest rest' : List User) → users u o rest ≡ false → list_any (same_user u) rest' ≡ false → users u o rest' ≡ false
 same_rest u None rest rest' none less = less
 same_rest u (Some v) rest rest' none less = ap₂ (λ (a b : Bool). a || b) (either_false (same_user u v) (list_any (same_user u) rest) none).0 less
 

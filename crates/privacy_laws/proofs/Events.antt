@@ -88,7 +88,7 @@ asked_users (wanted.Fetch f) texts = refl
 asked_users (wanted.Search q) texts = refl
 
 -- the user is logged in
-abbrev IsUsers : User → Dialog → Type 0
+abbrev pub IsUsers : User → Dialog → Type 0
 IsUsers u d = d.user ≡ Some u
 
 heard_asks : (u : User) (d : Dialog) (w : Awaits) (texts : Result (List (List ℕ)) ReadFault) → d.user ≡ Some u → AsksOwn (IsUsers u) (of_imap (session.heard_in d w texts).out) (session.heard_in d w texts).dialog
@@ -104,7 +104,7 @@ no_asks u (Submit asked) d answer = absurd (true≢false (sym answer))
 no_asks u (Bye said) d answer = tt
 
 -- the speech of an IMAP client's session is its user's
-imap_own : (h : House) (u : User) → OwnSpeech imap_speech h u (IsUsers u) (IsReaderOf u)
+pub imap_own : (h : House) (u : User) → OwnSpeech imap_speech h u (IsUsers u) (IsReaderOf u)
 imap_own h u = record {
   user = λ d is. is;
   settles = λ k l a d user outcome. subst (λ (o : Option User).
@@ -120,10 +120,10 @@ imap_own h u = record {
 -- ---- a command
 
 -- it is the same, and what is read and asked is of the user
-record IsTaken (u : User) (test : Body → Bool) (s t : Took Dialog) : Type 0 where
-  is : s ≡ t
-  mine : IsReaderOf u s.dialog
-  wants : WantsOwn (IsUsers u) test s.out s.dialog
+pub record IsTaken (u : User) (test : Body → Bool) (s t : Took Dialog) : Type 0 where
+  pub is : s ≡ t
+  pub mine : IsReaderOf u s.dialog
+  pub wants : WantsOwn (IsUsers u) test s.out s.dialog
 
 module _ (h : House) (u : User) (k l : Kept) (a : Agree h u k l) where
   wants_of : (out : ImapOut) (d : Dialog) → d.user ≡ Some u → FitsOut (is_held k l) out → WantsOwn (IsUsers u) (is_alike k l) (of_imap out) d
@@ -170,7 +170,7 @@ module _ (h : House) (u : User) (k l : Kept) (a : Agree h u k l) where
       (subst (λ (b : Bool). IsTaken u (is_alike k l) (read_by k h k.deep d reading) (read_by l h b d reading)) a.deep
       (one_reading k.deep d reading mine only)))
 
-  takes_same : (d : Dialog) (next : Next) → IsReaderOf u d → comes_only h u next ≡ true → IsTaken u (is_alike k l) (takes k d next) (takes l d next)
+  pub takes_same : (d : Dialog) (next : Next) → IsReaderOf u d → comes_only h u next ≡ true → IsTaken u (is_alike k l) (takes k d next) (takes l d next)
   takes_same d (Command raw) mine only = obeys_same d (command_of raw) mine only
   takes_same d (Mark length) mine only = record { is = refl; mine = mine; wants = tt }
   takes_same d (Bad line) mine only = record { is = refl; mine = mine; wants = tt }
@@ -229,7 +229,7 @@ module _ (h : House) (u : User) where
         mine = if_some (IsReaderOf u) (λ e. Reads e more) (λ e is. (is, second_so (comes_only h u next) _ mine.1)) (hindered imap_session i at k others d next).dialog turn.mine;
       }
 
-  only_more : (nexts : List Next) → list_all (comes_only h u) nexts ≡ true → list_all (comes_only h u) (nexts ++ NotYet ∷ []) ≡ true
+  pub only_more : (nexts : List Next) → list_all (comes_only h u) nexts ≡ true → list_all (comes_only h u) (nexts ++ NotYet ∷ []) ≡ true
   only_more [] only = refl
   only_more (next ∷ nexts) only = both (comes_only h u next) (list_all (comes_only h u) (nexts ++ NotYet ∷ [])) (first_so _ _ only) (only_more nexts (second_so (comes_only h u next) _ only))
 

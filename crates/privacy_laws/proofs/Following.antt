@@ -38,10 +38,10 @@ IsSame {D} {U} W R session at others beside =
     → Alike (λ e. W e more) R (hindered session h at k others d unit) (hindered session h at l beside d unit)
 
 module _ {D U : Type 0} (W : D → List U → Type 0) (R : Kept → Kept → Type 0) (session : Session D U) (at conn : ℕ) where
-  abbrev Ends : Left D → Left D → Type 0
-  Ends s t = SameLeft (λ d. W d []) R s t
+  abbrev SameAtEnd : Left D → Left D → Type 0
+  SameAtEnd s t = SameLeft (λ d. W d []) R s t
 
-  behind : (x y : Turn D) (r q : Left D) → Alike (λ d. Unit {0}) R x y → Ends r q → Ends (after x.said x.gone x.unsealed x.counts r) (after y.said y.gone y.unsealed y.counts q)
+  behind : (x y : Turn D) (r q : Left D) → Alike (λ d. Unit {0}) R x y → SameAtEnd r q → SameAtEnd (after x.said x.gone x.unsealed x.counts r) (after y.said y.gone y.unsealed y.counts q)
   behind x y r q one more = record {
     said = ap₂ (λ (a b : List ℕ). a ++ b) one.same.said more.said;
     dialog = more.dialog;
@@ -61,19 +61,19 @@ module _ {D U : Type 0} (W : D → List U → Type 0) (R : Kept → Kept → Typ
       free (Some d) = tt
 
   going : (P : D → Type 0) (s t : State) (x y : Turn D) → Alike P R x y → (o : Option D) → IfSome o P → (f g : State → D → Left D)
-      → ((d : D) → P d → Ends (f (outcome_of s x).state d) (g (outcome_of t y).state d)) → Ends (goes_on (outcome_of s x) o f) (goes_on (outcome_of t y) o g)
+      → ((d : D) → P d → SameAtEnd (f (outcome_of s x).state d) (g (outcome_of t y).state d)) → SameAtEnd (goes_on (outcome_of s x) o f) (goes_on (outcome_of t y) o g)
   going P s t x y one None mine f g more = record { said = one.same.said; dialog = refl; gone = one.same.gone; unsealed = one.same.unsealed; counts = one.same.counts; kept = one.same.kept; mine = tt }
   going P s t x y one (Some d) mine f g more = behind x y (f (outcome_of s x).state d) (g (outcome_of t y).state d) (bare P x y one) (more d mine)
 
   pub turns_same : (us : List U) (hs : List Hindrance) (s t : State) (d : D) → IsSame W R session at (beside conn s.seats) (beside conn t.seats) → R s.kept t.kept → W d us
-      → Ends (turns (turn_of session at conn) hs s d us) (turns (turn_of session at conn) hs t d us)
+      → SameAtEnd (turns (turn_of session at conn) hs s d us) (turns (turn_of session at conn) hs t d us)
   turns_same [] hs s t d each a mine = record { said = refl; dialog = refl; gone = refl; unsealed = refl; counts = refl; kept = a; mine = mine }
   turns_same (unit ∷ us) hs s t d each a mine =
       let x : Turn D = hindered session (first_hindrance hs) at s.kept (beside conn s.seats) d unit in
       let y : Turn D = hindered session (first_hindrance hs) at t.kept (beside conn t.seats) d unit in
       let same : Alike (λ e. W e us) R x y = each (first_hindrance hs) s.kept t.kept a d unit us mine in
       let f : State → D → Left D = λ s d. turns (turn_of session at conn) (other_hindrances hs) s d us in
-      subst (λ (o : Option D). Ends (goes_on (outcome_of s x) x.dialog f) (goes_on (outcome_of t y) o f)) same.same.dialog
+      subst (λ (o : Option D). SameAtEnd (goes_on (outcome_of s x) x.dialog f) (goes_on (outcome_of t y) o f)) same.same.dialog
       (going (λ e. W e us) s t x y same x.dialog same.mine f f
       (λ e its. turns_same us (other_hindrances hs) (record { kept = x.kept; seats = s.seats }) (record { kept = y.kept; seats = t.seats }) e each same.same.kept its))
 
@@ -83,7 +83,7 @@ module _ {D U : Type 0} (W : D → List U → Type 0) (R : Kept → Kept → Typ
   seated_mine V seat to None mine = tt
   seated_mine V seat to (Some d) mine = to d mine
 
-  pub heard_by_same : (V : Seat → Type 0) (seat : D → Seat) → ((d : D) → W d [] → V (seat d)) → (s t : Left D) → Ends s t → AlikeHeard V R (heard_by seat s) (heard_by seat t)
+  pub heard_by_same : (V : Seat → Type 0) (seat : D → Seat) → ((d : D) → W d [] → V (seat d)) → (s t : Left D) → SameAtEnd s t → AlikeHeard V R (heard_by seat s) (heard_by seat t)
   heard_by_same V seat to s t same = record {
     same = record {
       said = same.said;

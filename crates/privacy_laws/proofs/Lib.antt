@@ -25,4 +25,8 @@ pub mod Alongside
 pub mod Quiet
 pub mod Rooms
 pub mod Closing
+pub mod Doing
+pub mod Sparing
+pub mod OthersTurns
+pub mod OthersSteps
 pub mod Rows

@@ -60,12 +60,12 @@ use Rattle.privacy_laws.proofs.Turning.{AsksOwn, OwnSpeech, WantsOwn, same_follo
 -- ---- a dialog in which something can be asked
 
 -- the user is logged in, or logs in
-abbrev asks_in : User → Stage → Awaits → Type 0
+abbrev pub asks_in : User → Stage → Awaits → Type 0
 asks_in u (Authorization name) (Outcome (on.Enter v drop)) = v ≡ u
 asks_in u (Authorization name) _ = ⊥
 asks_in u (Transaction v drop) awaits = (v ≡ u) × (session.awaits_login awaits ≡ false)
 
-abbrev IsAsking : User → Dialog → Type 0
+abbrev pub IsAsking : User → Dialog → Type 0
 IsAsking u d = asks_in u d.stage d.awaits
 
 asking_user : (u : User) (stage : Stage) (w : Awaits) → asks_in u stage w → session.user_in stage w ≡ Some u
@@ -165,7 +165,7 @@ heard_left u d (Text wanted) is same (Err why) = rest_fetches u d.stage (Text wa
 heard_left u d (Outcome pending) is same text = same_fetches u d.stage d.awaits (subst (asks_in u d.stage) same is)
 
 -- the speech of a POP3 client's session is its user's
-pop_own : (h : House) (u : User) → OwnSpeech pop_speech h u (IsAsking u) (IsFetcherOf u)
+pub pop_own : (h : House) (u : User) → OwnSpeech pop_speech h u (IsAsking u) (IsFetcherOf u)
 pop_own h u = record {
   user = λ d is. asking_user u d.stage d.awaits is;
   settles = λ k l a d is outcome. refl;
@@ -177,10 +177,10 @@ pop_own h u = record {
 
 -- ---- a line
 
-record IsTaken (u : User) (test : Body → Bool) (s t : Took Dialog) : Type 0 where
-  is : s ≡ t
-  mine : IsFetcherOf u s.dialog
-  wants : WantsOwn (IsAsking u) test s.out s.dialog
+pub record IsTaken (u : User) (test : Body → Bool) (s t : Took Dialog) : Type 0 where
+  pub is : s ≡ t
+  pub mine : IsFetcherOf u s.dialog
+  pub wants : WantsOwn (IsAsking u) test s.out s.dialog
 
 entry_found : (test : Body → Bool) (entries : List Entry) (key : Key) → list_all (λ (e : Entry). test e.body) entries ≡ true → IfSome (entry_of entries key) (λ (e : Entry). test e.body ≡ true)
 entry_found test entries key all = found_is (λ (e : Entry). test e.body) (λ (e : Entry). same_key key e.key) entries all
@@ -331,7 +331,7 @@ module _ (h : House) (u : User) (k l : Kept) (a : Agree h u k l) (one other : Li
   heard_line argument d (Ok c) mine only = staged d.stage d.awaits mine argument c only
   heard_line argument d (Err refused) mine only = record { is = refl; mine = mine; wants = tt }
 
-  takes_same : (d : Dialog) (line : SmtpLine) → IsFetcherOf u d → line_is_of h u d line ≡ true → IsTaken u (is_alike k l) (pop_turn.takes one k d line) (pop_turn.takes other l d line)
+  pub takes_same : (d : Dialog) (line : SmtpLine) → IsFetcherOf u d → line_is_of h u d line ≡ true → IsTaken u (is_alike k l) (pop_turn.takes one k d line) (pop_turn.takes other l d line)
   takes_same d line mine only =
       subst (λ (x : House). IsTaken u (is_alike k l) (took_by (session.turn x (store_of k) k.stamps (size_in k) one d line)) (pop_turn.takes other l d line)) (sym a.one_house)
       (subst (λ (x : House). IsTaken u (is_alike k l) (took_by (session.turn h (store_of k) k.stamps (size_in k) one d line)) (took_by (session.turn x (store_of l) l.stamps (size_in l) other d line))) (sym a.other_house)

@@ -90,7 +90,7 @@ module _ (kept : Kept) (m : Mail) where
   gone_as (Some why) = none_gone_of kept
 
   -- it takes no mailbox away
-  none_gone : gone_between kept (taken kept m) ≡ []
+  pub none_gone : gone_between kept (taken kept m) ≡ []
   none_gone =
       ap (λ (r : Result Item Refused). gone_between kept (submitted_as kept r).kept) (live_is (store_of kept) kept.next m kept.deep)
       ∙ gone_as (refused_as (is_full kept m) kept.next)

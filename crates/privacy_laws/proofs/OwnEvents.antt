@@ -48,7 +48,7 @@ module _ (c : ℕ) where
   mine rs = replies_to c rs
 
   -- a reply to another connection
-  reply_apart : (r : Reply) (qs : List Reply) → (r.conn == c) ≡ false → mine (with_reply r qs) ≡ mine qs
+  pub reply_apart : (r : Reply) (qs : List Reply) → (r.conn == c) ≡ false → mine (with_reply r qs) ≡ mine qs
   reply_apart r [] other = ap (λ (b : Bool). cond b (r ∷ []) []) other
   reply_apart r (q ∷ qs) other = elim (nat_lt r.conn q.conn) as (λ b. mine (cond b (r ∷ q ∷ qs) (q ∷ with_reply r qs)) ≡ mine (q ∷ qs)) [
     | true ↦ ap (λ (b : Bool). cond b (r ∷ mine (q ∷ qs)) (mine (q ∷ qs))) other
@@ -71,7 +71,7 @@ module _ (c : ℕ) where
   other_words n (Some said) false rest is = ap (λ (b : Bool). cond b (parting n said ∷ mine rest) (mine rest)) is
 
   -- what is told to it comes of its own seats
-  told_at : (conn : ℕ) (aftermath : Aftermath) (seats : Seats) → mine (told_others conn aftermath seats) ≡ told_others conn aftermath (seats_at c seats)
+  pub told_at : (conn : ℕ) (aftermath : Aftermath) (seats : Seats) → mine (told_others conn aftermath seats) ≡ told_others conn aftermath (seats_at c seats)
   told_at conn aftermath [] = refl
   told_at conn aftermath (e ∷ seats) = by_number (e.0 == c) refl (told_at conn aftermath seats)
     where
@@ -83,7 +83,7 @@ module _ (c : ℕ) where
 -- ---- the seats at other connections
 
 module _ (conn c : ℕ) (apart : (conn == c) ≡ false) where
-  other_number : (n : ℕ) → is_at (nat_cmp conn) n ≡ true → (n == c) ≡ false
+  pub other_number : (n : ℕ) → is_at (nat_cmp conn) n ≡ true → (n == c) ≡ false
   other_number n at = ap (λ (x : ℕ). x == c) (eqb-true n conn (sym (is_same conn n) ∙ at)) ∙ apart
 
   pub seated_apart : (o : Option Seat) (seats : Seats) → seats_at c (seated conn o seats) ≡ seats_at c seats

@@ -27,12 +27,14 @@ use Rattle.imap_lines.specs.What.{what_in}
 use Rattle.imap_session.specs.Dialog.{opening}
 use Rattle.pop_session.specs.Command.{spoken}
 use Rattle.pop_session.specs.Dialog as pop
+use Rattle.smtp_session.specs.declared.dialog.Transaction.TheVariants.{Writing}
+use Rattle.smtp_session.specs.Body.{body_of}
 use Rattle.smtp_session.specs.Dialog as smtp
 use Rattle.smtp_lines.specs.Line.{smtp_lines_of}
 use Rattle.mail_loop.specs.Hindrance.{Hindrance}
 use Rattle.mail_loop.specs.Machine.{IsPassed}
 use Rattle.mail_loop.specs.Serving.{Step, at_first, run}
-use Rattle.mail_loop.specs.State.{Imap, Seat, Seats, State}
+use Rattle.mail_loop.specs.State.{Imap, Seat, Seats, Smtp, State}
 use Rattle.mail_loop.specs.PopTurn.{pop_session}
 use Rattle.mail_loop.specs.Turns.{fetches, hears_commands, hears_lines}
 use Rattle.privacy_laws.specs.Agreeing.{Agree}
@@ -40,10 +42,12 @@ use Rattle.privacy_laws.specs.Clients.{are_only_of, lines_are_of}
 use Rattle.privacy_laws.specs.Senders.{AgreeForMail}
 use Rattle.privacy_laws.specs.Others.{AreAlike, CanFollow, Spares, all_performed}
 use Rattle.privacy_laws.specs.Runs.{AgreeFor, AreAlikeFor, IsOpenTo, IsSameStep, LeaveAgreement, Others, Own, Part, first_run, has_in_use, notes_for, second_run}
+use Rattle.privacy_laws.specs.Steps.{AreMatched, BringTheSame, DoTheSame, items_in}
 use Rattle.privacy_laws.specs.Told.{SameHeard, seats_at}
 use Rattle.privacy_laws.proofs.Alongside.{at_first_agree, runs_same, same_where_all_arrive, step_same}
 use Rattle.privacy_laws.proofs.Events.{heard_same}
 use Rattle.privacy_laws.proofs.Maildrops.{fetched_same}
+use Rattle.privacy_laws.proofs.OthersSteps.{others_leave}
 use Rattle.privacy_laws.proofs.Rooms.{room_same}
 use Rattle.privacy_laws.proofs.Speaking.{sent_same}
 use Rattle.privacy_laws.proofs.Beside.{agree_beside, agree_itself, agree_run, agree_same}
@@ -258,6 +262,66 @@ same_words = same_bytes her_words only_ann
 runs_alike : AreAlikeFor house ann anns (at_first this) (at_first that) parts
 runs_alike = (same_join, (leaves, (same_words, tt)))
 
+-- the other's joining is a step of others too, and performs no item
+runs_bring : BringTheSame house ann anns (at_first this) (at_first that) parts
+runs_bring = (same_join, (inl (record { ones = (record { apart = refl; does = tt }, tt); others = tt; items = tt }), (same_words, tt)))
+
 -- so Ann is told the same in both: her greeting, that she is logged in, and her INBOX
 both_run : notes_for 1 (run (first_run parts) (at_first this)).notes ≡ notes_for 1 (run (second_run parts) (at_first that)).notes
 both_run = (runs_same house ann anns parts (at_first this) (at_first that) agree_first runs_alike).told 1 refl
+
+-- ---- a step of others
+
+-- an SMTP client has given all but the last line of a mail for Bob: one text in the one run, another in the other
+abbrev sends : List ℕ → Seat
+sends text = Smtp [] (record { client = Some (codes "c"); transaction = Writing (codes "x@y.z") (codes "bob" ∷ []) (Some text) })
+
+abbrev at_sender : List ℕ → State
+at_sender text = state_of start ((1, fresh) ∷ (2, sends text) ∷ [])
+
+abbrev ends_mail : Step
+ends_mail = step_of 2 (Bytes (46 ∷ 13 ∷ 10 ∷ []))
+
+abbrev letter : List ℕ → Item
+letter text = record { number = 2; at = 0; by = None; rev = 0; deed = Deliver (codes "x@y.z") (codes "bob" ∷ []) (body_of (codes "mail.test") 0 (codes "c") (codes "x@y.z") text); shown = Nothing }
+
+-- its last line is the delivery
+delivers_one : items_in (ends_mail ∷ []) (at_sender (codes "one")) ≡ letter (codes "one") ∷ []
+delivers_one = refl
+
+delivers_other : items_in (ends_mail ∷ []) (at_sender (codes "another")) ≡ letter (codes "another") ∷ []
+delivers_other = refl
+
+-- which touches no mailbox of Ann's
+letter_spares : (text : List ℕ) → Spares ann (store_of start) (letter text)
+letter_spares text id is =
+    subst (λ (v : User). touches_box (sought_by (store_of start) (letter text)) (letter text) (record { user = v; name = id.name }) ≡ false) (same_user-is ann id.user is) refl
+
+sender_uses : (a b : Bool) (text : List ℕ) → has_in_use ann (cond a ((1, fresh) ∷ cond b ((2, sends text) ∷ []) []) (cond b ((2, sends text) ∷ []) [])) ≡ false
+sender_uses true true text = refl
+sender_uses true false text = refl
+sender_uses false true text = refl
+sender_uses false false text = refl
+
+senders_agree : AgreeFor house ann anns (at_sender (codes "one")) (at_sender (codes "another"))
+senders_agree = record {
+  kept = start_agrees;
+  seats = λ c its. subst (λ (x : ℕ). seats_at x (at_sender (codes "one")).seats ≡ seats_at x (at_sender (codes "another")).seats) (sym (eqb-true c 1 its)) refl;
+  mine = λ c its. subst (λ (x : ℕ). IsOpenTo ann x (seats_at x (at_sender (codes "one")).seats)) (sym (eqb-true c 1 its)) (refl, inr (refl, refl));
+  one = λ c none. sender_uses (1 == c) (2 == c) (codes "one");
+  other = λ c none. sender_uses (1 == c) (2 == c) (codes "another");
+}
+
+same_done : DoTheSame house ann anns (at_sender (codes "one")) (at_sender (codes "another")) (ends_mail ∷ []) (ends_mail ∷ [])
+same_done = record {
+  ones = (record { apart = refl; does = tt }, tt);
+  others = (record { apart = refl; does = tt }, tt);
+  items =
+      subst (λ (is : List Item). AreMatched ann start start is (items_in (ends_mail ∷ []) (at_sender (codes "another")))) (sym delivers_one)
+      (subst (λ (js : List Item). AreMatched ann start start (letter (codes "one") ∷ []) js) (sym delivers_other)
+      (inr (inr (letter_spares (codes "one")), inr (letter_spares (codes "another"))), tt));
+}
+
+-- so the stores agree on Ann again, and she is told nothing
+mail_leaves : LeaveAgreement house ann anns (at_sender (codes "one")) (at_sender (codes "another")) (ends_mail ∷ []) (ends_mail ∷ [])
+mail_leaves = others_leave house ann anns (at_sender (codes "one")) (at_sender (codes "another")) (ends_mail ∷ []) (ends_mail ∷ []) senders_agree same_done

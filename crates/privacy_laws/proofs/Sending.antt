@@ -44,13 +44,13 @@ Any d = Unit {0}
 -- ---- what a line asks
 
 -- only mails are asked of the desk, and no text is read
-abbrev AsksMail : Out → Type 0
+abbrev pub AsksMail : Out → Type 0
 AsksMail (Say said) = Unit {0}
 AsksMail (Read bodies) = ⊥
 AsksMail (Submit asked) = (from : List ℕ) × (to : List (List ℕ)) × (text : List ℕ) × (asked ≡ Deliver from to text)
 AsksMail (Bye said) = Unit {0}
 
-abbrev Asks : session.DialogTurn → Type 0
+abbrev pub Asks : session.DialogTurn → Type 0
 Asks t = AsksMail (took_by t).out
 
 either_asks : (b : Bool) (x y : session.DialogTurn) → Asks x → Asks y → Asks (cond b x y)
@@ -91,7 +91,7 @@ end_asks : (house : House) (d : Dialog) (path : List ℕ) (to : List (List ℕ))
 end_asks house d path to None = tt
 end_asks house d path to (Some body) = (path, to, body, refl)
 
-turn_asks : (house : House) (conf : Conf) (at : ℕ) (d : Dialog) (t : Transaction) (line : SmtpLine) → Asks (session.turn_in house conf at d t line)
+pub turn_asks : (house : House) (conf : Conf) (at : ℕ) (d : Dialog) (t : Transaction) (line : SmtpLine) → Asks (session.turn_in house conf at d t line)
 turn_asks house conf at d (Writing path to text) line =
     let body : Option (List ℕ) = option_map (body_of house.host at (unwrap_or d.client []) path) text in
     either_asks (bytes_eq line.bytes (codes ".")) (session.end_text house d path to body) (session.turns Nothing (session.with_transaction d (Writing path to (add_line text line)))) (end_asks house d path to body) tt

@@ -4,3 +4,4 @@ pub mod Senders
 pub mod Told
 pub mod Others
 pub mod Runs
+pub mod Steps

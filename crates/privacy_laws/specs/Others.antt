@@ -41,7 +41,7 @@ aims_of u kept i = filter (λ (a : Aim). same_user u a.user) (sought_by (store_o
 abbrev pub IsSameMail : User → Kept → Kept → Item → Item → Type 0
 IsSameMail u k l i j = (i ≡ j) × (is_mail i.deed ≡ true) × (aims_of u k i ≡ aims_of u l i)
 
--- Two runs of items are alike for a user: each item of the user's own stands in both, and each mail that comes to the user; and beside each item that
+-- Two runs of items are alike for a user. Each item of the user's own stands in both, and each mail that comes to the user. Beside each item that
 -- touches none of the user's mailboxes stands another such.
 abbrev pub AreAlike : House → User → Kept → Kept → List Item → List Item → Type 0
 AreAlike house u k l [] [] = Unit {0}

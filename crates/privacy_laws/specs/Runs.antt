@@ -30,8 +30,8 @@ IsOpenTo u conn (e ∷ f ∷ es) = ⊥
 abbrev pub has_in_use : User → Seats → Bool
 has_in_use u seats = list_any (same_user u) (in_use seats)
 
--- Two states agree for a user, whose connections these are: the stores agree on the user, each of these connections has the same seat in both, of a
--- client of that user's, or is open in neither, and on no other one the user's maildrop is in use.
+-- Two states agree for a user, whose connections these are. The stores agree on the user. Each of these connections has the same seat in both, of a
+-- client of that user's, or is open in neither. On no other one the user's maildrop is in use.
 pub record AgreeFor (house : House) (u : User) (own : ℕ → Bool) (s t : State) : Type 0 where
   pub kept : Agree house u s.kept t.kept
   pub seats : (conn : ℕ) → own conn ≡ true → seats_at conn s.seats ≡ seats_at conn t.seats
@@ -69,8 +69,8 @@ answered_in step s = answered step.hindrances.unfed step.hindrances.turns step.h
 abbrev pub behind : Step → State → State
 behind step s = (happens step.hindrances s step.event).state
 
--- A step of each run: the same event at the same moment, on one of the user's connections, with the same want of memory and the same faults in its turns,
--- and strings to the user's connections that go alike. How other strings go and whether a snapshot is taken may differ.
+-- A step of each run: the same event at the same moment, on one of the user's connections. It has the same want of memory and the same faults in its turns,
+-- and its strings to the user's connections go alike. How other strings go and whether a snapshot is taken may differ.
 pub record IsSameStep (house : House) (u : User) (own : ℕ → Bool) (s t : State) (i j : Step) : Type 0 where
   pub event : i.event ≡ j.event
   pub owned : own i.event.conn ≡ true

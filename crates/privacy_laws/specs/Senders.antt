@@ -36,7 +36,7 @@ all_taken kept (m ∷ ms) = all_taken (taken kept m) ms
 abbrev pub is_somebody : House → Kept → List ℕ → Bool
 is_somebody house kept local = not (is_empty (resolved house (store_of kept).conf local))
 
--- Two stores of a house agree for SMTP clients: the next number is the same, the same local parts mean somebody, be it whoever it is, and whatever mails
+-- Two stores of a house agree for SMTP clients. The next number is the same, and the same local parts mean somebody, be it whoever it is. Whatever mails
 -- come to both, the next one finds room in both or in none. Of mailboxes and their messages nothing else is said.
 pub record AgreeForMail (house : House) (k l : Kept) : Type 0 where
   pub one_house : k.house ≡ house

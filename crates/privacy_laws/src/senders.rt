@@ -14,7 +14,7 @@ ghost use Rattle.mail_loop.specs.State.{Seats, Smtp, State};
 ghost use Rattle.privacy_laws.specs.Senders.{AgreeForMail};
 ghost use Rattle.privacy_laws.specs.Told.{HasSeat, SameAnswered, SameTurn};
 
-/// A line comes from an SMTP client over two stores whose mailboxes may differ, where the next number is the same, the same local parts mean somebody and
+/// A line comes from an SMTP client over two stores whose mailboxes may differ. The next number is the same, the same local parts mean somebody, and
 /// there is room for a mail in both or in none. Then it is told the same and has the same dialog, whatever hinders the turn, and the stores agree again.
 /// So it is of all lines of an event.
 pub fn smtp_clients_are_told_of_nobodys_mail()
