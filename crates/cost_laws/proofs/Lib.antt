@@ -1,0 +1,10 @@
+pub mod Performing
+pub mod Turns
+pub mod Lines
+pub mod Commands
+pub mod Events
+pub mod Records
+pub mod Sealed
+pub mod Texts
+pub mod Wanting
+pub mod Reading
