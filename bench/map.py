@@ -17,8 +17,6 @@ TOP = os.path.dirname(os.path.dirname(os.path.abspath(__file__)))
 PAGE, DRAWING, PROVED, CRATES = (os.path.join(TOP, *path) for path in (('docs', 'MAP.md'), ('docs', 'map.svg'), ('docs', 'PROVED.md'), ('crates.txt',)))
 BEGIN_CRATES, END_CRATES = '<!-- crates, by bench/map.py -->\n', '<!-- end of the crates -->'
 BEGINS, ENDS = '<!-- groups, by bench/map.py -->\n', '<!-- end of the groups -->'
-RULES = {'ground': 'outside journal', 'protocols, as bytes': 'dialogs console', 'what mail is': 'store', 'on disk': 'journal', 'the rules of undo': 'undo replay', 'the doing of it': 'undo replay',
-    'the store in use': 'journal undo', 'dialogs': 'dialogs console', 'the program': 'machine', 'laws': 'undo journal', 'tests': 'repository'}   # the pages below docs/details that have a group's rules
 COLOURS = 'e6e9ee dceefb d9f2e3 fdeccb f6dcdc e9dff5 d3f0ef fbe3f1 eef0c8 dfe3fb f3f5f8'.split()   # a group's, in their order; the last is the tests'
 WIDE, HIGH, ACROSS, DOWN, LEFT = 118, 26, 128, 78, 40   # a box, and the distance from one to the next
 
@@ -129,7 +127,7 @@ def drawing(uses):
 def table(uses):
     lines, rows = straight(uses), ['| Crate | What it is | Stands on |', '|---|---|---|']
     for group, what, names in groups():
-        rows.append(f'| **{group}** | *{what}* | *rules: {", ".join(f"details/{page}.md" for page in RULES[group].split())}* |')
+        rows.append(f'| **{group}** | *{what}* |  |')
         for name in names: rows.append(f'| {name} | {what_it_is(name)} | {", ".join(lines[name])} |')
     return '\n'.join(rows) + '\n'
 

@@ -37,7 +37,7 @@ def lacks(text, use, is_code):
     crate, part, path, names, alias = use.groups()
     parts, listed = path.split('.'), [one.split(' as ')[0].strip() for one in (names or '').split(',') if one.strip()]
     if crate not in os.listdir(CRATES) or MADE & set(parts): return '', set()
-    if parts[0] == 'declared': return f'{crate}/src', {one for one in parts[1:] + listed if one.isidentifier() and not one.startswith('The')} - declared(crate)
+    if parts[0] == 'declared': return f'{crate}/src', {one for one in parts[1:] + listed if one.isidentifier() and not one.startswith('The')} - declared(crate) - {'Ghosts'}   # a trait's record, which the kit names
     file, rest = module(crate, [part, *parts])
     if not file: return f'{crate}/{part}', {path}
     if alias and not rest and not is_code: listed += re.findall(rf"(?<![\w.]){alias}\.([^\W\d][\w'-]*)", text)
