@@ -5,8 +5,7 @@ use Rattle.std.specs.Str.{bytes_eq}
 use Rattle.undo_outside.specs.declared.event.Event.{Event}
 use Rattle.undo_outside.specs.declared.event.What.{What}
 use Rattle.undo_outside.specs.declared.event.What.TheVariants.{Joined, Bytes, Left, Idle}
-use Rattle.undo_outside.specs.declared.event.Role.{Role}
-use Rattle.undo_outside.specs.declared.event.Role.TheVariants.{Smtp, Imap, Http, Pop}
+use Rattle.undo_outside.specs.Roles.{role_with}
 use Rattle.script_link.specs.declared.line.ScriptLine.{ScriptLine}
 use Rattle.script_link.specs.declared.line.ScriptLine.TheVariants.{Skipped, Moment, Happens, Bad}
 use Rattle.undo_base.specs.Digits.{number_between}
@@ -45,18 +44,9 @@ abbrev pub at_line : Option ℕ → ScriptLine
 at_line None = Bad
 at_line (Some at) = Moment at
 
--- what a connection speaks
-unfoldable pub role_of : List ℕ → Option Role
-role_of word =
-    if bytes_eq word (codes "smtp") then Some Smtp
-    else (if bytes_eq word (codes "imap") then Some Imap
-    else (if bytes_eq word (codes "http") then Some Http
-    else (if bytes_eq word (codes "pop") then Some Pop
-    else None)))
-
 -- what follows 'open ': a connection and what it speaks
 unfoldable pub open_line : ℕ → List ℕ → ScriptLine
-open_line at rest = happens (happens_at at (first_part rest) (option_map Joined (role_of (other_parts rest))))
+open_line at rest = happens (happens_at at (first_part rest) (option_map Joined (role_with (other_parts rest))))
 
 -- what follows 'line ': a connection alone, or a text behind it, which is a line
 unfoldable pub text_line : ℕ → List ℕ → ScriptLine

@@ -11,7 +11,7 @@ ghost use Rattle.undo_outside.specs.declared.event.What.TheVariants.{Joined, Byt
 ghost use Rattle.undo_base.specs.Digits.{number_between};
 ghost use Rattle.script_link.specs.Numbers.{moment_of};
 ghost use Rattle.script_link.specs.Line as spec;
-ghost use Rattle.script_link.specs.Line.{said, event_of, is_skipped, first_part, other_parts, happens, happens_at, role_of, at_line, open_line, text_line, data_line, filling, filled, fill_line, gone_line, script_line};
+ghost use Rattle.script_link.specs.Line.{said, event_of, is_skipped, first_part, other_parts, happens, happens_at, at_line, open_line, text_line, data_line, filling, filled, fill_line, gone_line, script_line};
 
 use crate::numbers::{read_conn, read_moment};
 use crate::pieces::{before_space, behind_space};
@@ -77,23 +77,6 @@ fn event_at(at: u64, conn: &[u8], what: Option<What>) -> ScriptLine
     }
 }
 
-#[tactic(auto, unfolding(crate::specs::Line::role_of))]
-fn read_role(word: &[u8]) -> Option<Role>
-    ensures { result ≡ role_of word.now }
-{
-    if is_text(word, b"smtp") {
-        Some(Role::Smtp)
-    } else if is_text(word, b"imap") {
-        Some(Role::Imap)
-    } else if is_text(word, b"http") {
-        Some(Role::Http)
-    } else if is_text(word, b"pop") {
-        Some(Role::Pop)
-    } else {
-        None
-    }
-}
-
 fn joined(role: Option<Role>) -> Option<What>
     ensures { result ≡ option_map Joined role }
 {
@@ -110,7 +93,7 @@ fn read_open(at: u64, rest: &[u8]) -> ScriptLine
     event_at(
         at,
         before_space(rest),
-        joined(read_role(behind_space(rest))),
+        joined(Role::with_word(behind_space(rest))),
     )
 }
 
