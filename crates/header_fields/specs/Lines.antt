@@ -1,6 +1,7 @@
 -- Lines of a text (RFC 5322, 2.1): a line ends with CRLF, and a lone CR or LF is a byte of it.
 use Rattle.std.specs.Prelude.{ℕ, Bool, false, ◌==◌, ◌&&◌, List, [], ◌∷◌, flat_map, if◌then◌else◌}
 use Rattle.std.specs.Str.{bytes_eq}
+use Rattle.undo_base.specs.LineEnd.{crlf}
 
 -- the two bytes are CR and LF
 abbrev pub is_end : ℕ → ℕ → Bool
@@ -19,7 +20,7 @@ lines_of (b ∷ c ∷ bytes) = if is_end b c then (b ∷ c ∷ []) ∷ lines_of 
 
 -- CRLF alone
 abbrev pub is_empty_line : List ℕ → Bool
-is_empty_line line = bytes_eq line (13 ∷ 10 ∷ [])
+is_empty_line line = bytes_eq line crlf
 
 -- whether an empty line comes first
 abbrev pub begins_empty : List ℕ → Bool

@@ -3,7 +3,7 @@
 //! `SubmitFault` stands here beside `Refused`, since each session takes it and the desk gives it.
 //!
 //! `HasInferiors` stands last among the refusals' names, and is told by its place in the order: behind NoBox, before TryCreate.
-use undo_base::{Flags, How, Keys, Name, Names, Text};
+use undo_base::{Flags, How, Keys, Name, Names, NoMemory, Text};
 
 /// What is asked of the store. `strict` is true where the messages were named by sequence number. An EXPUNGE with `only` removes no others than these.
 #[derive(Debug, Drop, PartialEq, Eq)]
@@ -85,6 +85,17 @@ pub enum Refused {
     Numbers { next: u32 },
     NoMemory,
     HasInferiors,
+}
+
+impl From<NoMemory> for Refused {
+    ghost use Rattle.std.specs.Prelude.{◌≡◌};
+    ghost use Rattle.verb_core.specs.declared.ask.Refused.TheVariants.{NoMemory as no_memory};
+
+    ghost from_gives = { λ _ refused. refused ≡ no_memory };
+
+    fn from(_: NoMemory) -> Self {
+        Refused::NoMemory
+    }
 }
 
 /// Why a submitted ask has no item: it is refused, a device call failed, or the log is closed.

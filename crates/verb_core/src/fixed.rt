@@ -1,7 +1,24 @@
 //! Names that are always there, and names that a new mailbox can have.
-ghost use Rattle.std.specs.Prelude.{◌≡◌, bytes_eq};
+ghost use Rattle.std.specs.Prelude.{◌≡◌, bytes_eq, IfOk};
 ghost use Rattle.std.specs.List.{list_any};
 ghost use Rattle.verb_core.specs.Names.{inbox, lost_found, is_fixed as is_always_there, is_slash as is_separator, is_wildcard as is_any, has_whole_parts as are_whole, is_new_name as is_new};
+
+use std::alloc::Global;
+use undo_base::{Name, NoMemory};
+
+/// The name of the mailbox that each user has for what comes in.
+pub fn inbox_name(alloc: Global) -> Result<Name, NoMemory>
+    ensures { IfOk result (λ name. name ≡ inbox) }
+{
+    Name::of(alloc, b"INBOX")
+}
+
+/// The name of the mailbox that each user has for what finds no other.
+pub fn lost_found_name(alloc: Global) -> Result<Name, NoMemory>
+    ensures { IfOk result (λ name. name ≡ lost_found) }
+{
+    Name::of(alloc, b"Lost+Found")
+}
 
 /// Whether it is INBOX.
 pub fn is_inbox(name: &[u8]) -> bool

@@ -29,7 +29,8 @@ pub use ask::{Ask, Refused, SubmitFault};
 pub use bodies::{Bodies, BodiesFault};
 pub use conf::{Account, Alias, Conf, Filter, House, Scope, are_of_body};
 pub use fixed::{
-    has_whole_parts, is_fixed, is_inbox, is_lost_found, is_new_name, is_slash, is_wildcard,
+    has_whole_parts, inbox_name, is_fixed, is_inbox, is_lost_found, is_new_name, is_slash,
+    is_wildcard, lost_found_name,
 };
 pub use flags::flags_after;
 pub use item::{Act, Aim, Deed, Item, Resolved, Shown, Sight, Way};

@@ -21,10 +21,7 @@ pub fn is_inferior(name: &[u8], other: &[u8]) -> bool
 fn push_front(alloc: Global, names: &mut Names, front: &[u8]) -> Result<(), NoMemory>
     ensures { OnOk result (names.new ≡ names.old ++ front.now ∷ []) }
 {
-    match Name::read(alloc, front) {
-        Ok(name) => names.push(name),
-        Err(_) => Err(NoMemory),
-    }
+    names.push(Name::fit(alloc, front)?)
 }
 
 /// Behind the superiors that end before a place, the one that ends there, if one does.
