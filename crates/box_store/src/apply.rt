@@ -14,6 +14,20 @@ use verb_core::{Item, Shown};
 impl Store {
     ghost use Rattle.box_store.specs.Effects.{IsReady, applied, step_text};
 
+    /// Applies an effect, for which there is room, and counts nothing. It takes no memory.
+    pub fn apply_alone(&mut self, effect: Effect) -> Shown
+        requires { IsReady effect self.old }
+        ensures store { self.new.store ≡ applied effect self.old.store }
+        ensures shown { result ≡ effect.shown }
+    {
+        let Effect { work, act, shown } = effect;
+        work_on(&mut self.rows, &mut self.spares, work);
+        if act.is_some() {
+            self.conf.change();
+        }
+        shown
+    }
+
     /// Applies an effect, for which there is room. It takes no memory.
     pub fn apply<L: Ledger>(&mut self, effect: Effect, steps: &mut Steps<L>) -> Shown
         requires ready { IsReady effect self.old }
@@ -21,13 +35,8 @@ impl Store {
         ensures shown { result ≡ effect.shown }
         ensures step { steps.new ≡ steps.old + 1 }
     {
-        let Effect { work, act, shown } = effect;
-        work_on(&mut self.rows, &mut self.spares, work);
-        if act.is_some() {
-            self.conf.change();
-        }
         steps.tick();
-        shown
+        self.apply_alone(effect)
     }
 
     /// Performs one item whose text is given beside it.
@@ -63,20 +72,13 @@ impl Store {
         self.effect(alloc, &what)
     }
 
-    /// The effect, where room for it was found.
-    fn with_room(&mut self, alloc: Global, effect: Effect) -> Result<Effect, NoMemory>
-        ensures store { self.new.store ≡ self.old.store }
-        ensures same { IfOk result (λ ready. ready ≡ effect) }
-        ensures ok { OnOk result (IsReady effect self.new) }
-    {
-        match self.reserve(alloc, &effect) {
-            Ok(()) => Ok(effect),
-            Err(_) => Err(NoMemory),
-        }
-    }
-
-    /// What an item does now, with room for it.
-    fn ready_effect(&mut self, alloc: Global, item: &Item, text: &[u8]) -> Result<Effect, NoMemory>
+    /// What an item does now whose text is given beside it, with room for it.
+    pub fn ready_effect(
+        &mut self,
+        alloc: Global,
+        item: &Item,
+        text: &[u8],
+    ) -> Result<Effect, NoMemory>
         requires valid { IsValid self.old.store }
         requires formed { IsWellFormed self.old.store.house item.now }
         ensures kept { self.new.store ≡ self.old.store }
@@ -85,7 +87,12 @@ impl Store {
         ensures shown { IfOk result (λ effect. effect.shown ≡ (step_text self.old.store item.now text.now).1) }
     {
         let effect = self.effect_now(alloc, item, text)?;
-        let ready = self.with_room(alloc, effect)?;
-        Ok(ready)
+        match self.reserve(alloc, &effect) {
+            Ok(()) => Ok(effect),
+            Err(NoMemory) => {
+                drop(effect);
+                Err(NoMemory)
+            }
+        }
     }
 }
