@@ -1,20 +1,20 @@
 -- What a search finds among rising rows, and what an edit at that place does.
-use Rattle.std.proofs.Common.{◌≡◌, ℕ, ◌+◌, ◌-◌, ◌<◌, ◌≤◌, inl, inr, List, length, get_or, set, Some, None, Result, Ok, Err, IfOk, IfErr, refl, sym, ap, subst, ◌∙◌, arith, rules}
+use Rattle.std.proofs.Common.{◌≡◌, ℕ, true, ◌+◌, ◌-◌, ◌<◌, ◌≤◌, inl, inr, List, length, get_or, set, Some, None, Result, Ok, Err, IfOk, IfErr, refl, sym, ap, subst, ◌∙◌, arith, rules}
 use Rattle.std.specs.List.{insert}
 use Rattle.std.specs.List.Sorted.{IsSearchInRange, IsBinarySearchResult, IsNonDecreasingBy}
 use Rattle.std.specs.Ordering.{ordering_index}
 use Rattle.std.specs.declared.cmp.Ordering.{Ordering}
 use Rattle.std.specs.declared.cmp.Ordering.TheVariants.{Less, Equal, Greater}
-use Rattle.std.proofs.lemmas.Cmp.{alike_right}
+use Rattle.std.proofs.lemmas.Cmp.{alike_right, tied_itself}
 use Rattle.std.proofs.lemmas.Bool.{cases_order}
-use Rattle.std.proofs.lemmas.List.{get_or-set_same, get_or-set_other}
+use Rattle.std.proofs.lemmas.List.{get_or_default, get_or-set_same, get_or-set_other}
 use Rattle.std.proofs.lemmas.List.Edits.{length-insert, get_or-insert_below, get_or-insert_at, get_or-insert_above}
 use Rattle.std.proofs.lemmas.Grind.{common_steps}
 use Rattle.verb_core.specs.declared.mailbox.Body.{Body}
 use Rattle.shelf.specs.declared.note.Note.{Note}
-use Rattle.shelf.specs.Notes.{note_of, NotesOnly}
+use Rattle.shelf.specs.Notes.{note_of, same_body, NotesOnly}
 use Rattle.shelf.specs.Rows.{body_order, IsRising, IsAt, IsGapFor}
-use Rattle.shelf.proofs.OrderLemmas.{body_total, same_if_equal, tested_if_equal, apart, turned_less}
+use Rattle.shelf.proofs.OrderLemmas.{body_total, same_if_equal, same_if_tested, tested_if_equal, apart, turned_less}
 use Rattle.shelf.proofs.NoteLemmas.{NoneBefore, note_none, note_there, notes_set, notes_insert}
 
 index_at_most : (o : Ordering) → ordering_index o ≤ 2
@@ -52,6 +52,15 @@ module _ (rows : List (Body × Note)) (rising : IsRising rows) (body : Body) whe
       after = λ j d le lt. (parted comparisons_rise).1 j d le lt;
     };
   }
+
+-- a row whose body is tested to be the same has it
+pub at_place : (rows : List (Body × Note)) (body : Body) (at : ℕ) (row : Body × Note) → at < length rows → row ≡ get_or rows at row → same_body row.0 body ≡ true → IsAt rows body at
+at_place rows body at row within is same = record {
+  within = within;
+  equal = λ d.
+      let here : (get_or rows at d).0 ≡ body = ap (λ (r : Body × Note). r.0) (get_or_default rows at d row within ∙ sym is) ∙ same_if_tested row.0 body same in
+      subst (λ (b : Body). body_order b body ≡ Equal) (sym here) (tied_itself body_total body);
+}
 
 module _ (rows : List (Body × Note)) (rising : IsRising rows) (body : Body) (at : ℕ) (is_at : IsAt rows body at) where
   -- the bodies before the place come earlier

@@ -1,5 +1,5 @@
 //! The shelf, and the notes of bodies.
-ghost use Rattle.std.specs.Prelude.{◌≡◌, ◌≤◌, ◌<◌, ◌+◌, [], IfOk, IfErr, OnOk};
+ghost use Rattle.std.specs.Prelude.{◌≡◌, ◌≤◌, ◌<◌, ◌+◌, [], true, option_map, IfOk, IfErr, OnOk};
 ghost use Rattle.shelf.specs.Notes as spec;
 ghost use Rattle.shelf.specs.Notes.{NotesOnly, note_of, size_of};
 ghost use Rattle.shelf.specs.Rows.{made, IsAt, IsGapFor};
@@ -40,6 +40,15 @@ fn made_at(body: Body) -> (u32, u32, u32)
     ensures { result ≡ made body }
 {
     (body.origin.max(body.rev), body.origin, body.rev)
+}
+
+fn length_in(note: Option<Note>) -> Option<u32>
+    ensures { result ≡ option_map (λ n. n.length) note }
+{
+    match note {
+        Some(note) => Some(note.length),
+        None => None,
+    }
 }
 
 impl Shelf {
@@ -100,10 +109,29 @@ impl Shelf {
     pub fn size(&self, body: Body) -> Option<u32>
         ensures { result ≡ size_of self.now.notes body }
     {
-        match self.find(body) {
-            Some(note) => Some(note.length),
-            None => None,
+        length_in(self.find(body))
+    }
+
+    /// The last note of a body, looked for at a place first. Where it is found the place behind it is left, at which the next body's
+    /// note lies if that came to be next.
+    fn find_near(&self, body: Body, near: &mut usize) -> Option<Note>
+        ensures { result ≡ note_of self.now.notes body }
+    {
+        match self.search_near(body, *near) {
+            Ok(at) => {
+                *near = at.saturating_add(1);
+                Some(self.rows[at].1)
+            }
+            Err(_) => None,
         }
+    }
+
+    /// How many bytes a body has, where it was noted. Asked of bodies in the order in which they came to be, with one `near` that
+    /// is 0 at first, most are found with no search.
+    pub fn size_near(&self, body: Body, near: &mut usize) -> Option<u32>
+        ensures { result ≡ size_of self.now.notes body }
+    {
+        length_in(self.find_near(body, near))
     }
 
     fn insert(&mut self, at: usize, body: Body, note: Note)
@@ -115,6 +143,27 @@ impl Shelf {
         ensures keeps { self.new.keeps ≡ self.old.keeps }
     {
         insert_within(&mut self.rows, at, (body, note));
+    }
+
+    /// Whether the row at a place has the body.
+    fn has_at(&self, place: usize, body: Body) -> bool
+        ensures { result ≡ true → IsAt self.now.notes body place }
+    {
+        if place >= self.rows.len() {
+            return false;
+        }
+        self.rows[place].0.is_same(body)
+    }
+
+    /// Where the body's note is, or where it would go; looked for at a place first.
+    fn search_near(&self, body: Body, near: usize) -> Result<usize, usize>
+        ensures found { IfOk result (IsAt self.now.notes body) }
+        ensures absent { IfErr result (IsGapFor self.now.notes body) }
+    {
+        if self.has_at(near, body) {
+            return Ok(near);
+        }
+        self.search(body)
     }
 
     /// Where the body's note is, or where it would go.
