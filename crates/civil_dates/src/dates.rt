@@ -1,7 +1,5 @@
 //! Moments as mail and IMAP write them.
 //!
-//! A moment past the year 9999 is told as its last second, as one that is asked for is kept. So telling one has no condition.
-//!
 //! A crate of its own below the layers that write or read dates: one rule for the trace line, IMAP's dates and notices.
 ghost use Rattle.std.specs.Prelude.{◌≡◌, ◌≤◌, ◌<◌, ◌++◌, ◌/◌, ◌%◌, IfOk, OnOk, OnErr, string_bytes};
 ghost use Rattle.civil_dates.specs.Dates as spec;

@@ -2,6 +2,8 @@
 //!
 //! Where a message has no text beside it, none of its bytes are told (`{0}`); a session hands over a text for each message
 //! wherever a body section is asked for.
+//!
+//! A moment past the year 9999 is told as its last second, as one that is asked for is kept. So telling an entry has no condition.
 ghost use Rattle.std.specs.Prelude.{◌≡◌, ◌++◌, IfOk, OnOk, map};
 ghost use Rattle.imap_fetch.specs.Told as spec;
 
