@@ -20,12 +20,9 @@ fn act_kept(alloc: Global, act: &Act) -> Result<Option<Act>, NoMemory>
     ensures { IfOk result (λ kept. (house conf : _) → conf_by house kept conf ≡ conf_after house (Acts act.now) conf) }
 {
     match act {
-        Act::SetAlias { .. } => Ok(Some(act.copy(alloc)?)),
-        Act::DropAlias { .. } => Ok(Some(act.copy(alloc)?)),
-        Act::SetFilter(_) => Ok(Some(act.copy(alloc)?)),
-        Act::DropFilter { .. } => Ok(Some(act.copy(alloc)?)),
         Act::Remove { .. } => Ok(None),
         Act::Give { .. } => Ok(None),
+        _ => Ok(Some(act.copy(alloc)?)),
     }
 }
 

@@ -197,11 +197,7 @@ fn act_work(alloc: Global, user: User, act: &Act) -> Result<Work, NoMemory>
 {
     match act {
         Act::Remove { mailbox, key, .. } => remove_work(alloc, user, mailbox, *key),
-        Act::SetAlias { .. } => Ok(no_work(alloc)),
-        Act::DropAlias { .. } => Ok(no_work(alloc)),
-        Act::SetFilter(_) => Ok(no_work(alloc)),
-        Act::DropFilter { .. } => Ok(no_work(alloc)),
-        Act::Give { .. } => Ok(no_work(alloc)),
+        _ => Ok(no_work(alloc)),
     }
 }
 

@@ -38,11 +38,7 @@ fn act_message(act: &Act, at: u64) -> Option<(Flags, u64)>
 {
     match act {
         Act::Give { .. } => Some((Flags::default(), at)),
-        Act::SetAlias { .. } => None,
-        Act::DropAlias { .. } => None,
-        Act::SetFilter(_) => None,
-        Act::DropFilter { .. } => None,
-        Act::Remove { .. } => None,
+        _ => None,
     }
 }
 

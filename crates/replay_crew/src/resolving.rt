@@ -39,8 +39,7 @@ fn changes_conf(act: &Act) -> bool
         Act::DropAlias { .. } => true,
         Act::SetFilter(_) => true,
         Act::DropFilter { .. } => true,
-        Act::Remove { .. } => false,
-        Act::Give { .. } => false,
+        _ => false,
     }
 }
 
