@@ -2,6 +2,7 @@
 use Rattle.std.specs.Prelude.{◌≡◌, ℕ, ◌+◌, Bool, true, false, not, ◌&&◌, ◌==◌, nat_lt, if◌then◌else◌, List, [], ◌∷◌, length, filter, count_by, Option, Some, option_map, Result, Err, bytes_eq}
 use Rattle.std.specs.List.{list_any}
 use Rattle.std.specs.Ordering.{eq_by_cmp}
+use Rattle.undo_base.specs.declared.limits.TheConstants.{END_OF_NUMBERS}
 use Rattle.undo_base.specs.declared.keys.User.{User}
 use Rattle.verb_core.specs.declared.item.Aim.{Aim}
 use Rattle.verb_core.specs.declared.item.Item.{Item}
@@ -100,7 +101,7 @@ abbrev pub by_room : MailStore → ℕ → Option User → Ask → Option Refuse
 by_room s number by ask = first_of (
     if_so (fills_up s by ask) BoxesFull
     ∷ if_so (uses_up s by ask) UidWide
-    ∷ if_so (number == 4194304) (Numbers number)
+    ∷ if_so (number == END_OF_NUMBERS) (Numbers number)
     ∷ [])
 
 -- ---- in turn

@@ -12,7 +12,7 @@ use crate::refusals::{mail_of, marked, marked_in, refused_by_keys, refused_by_na
 use crate::room::refused_by_room;
 use mail_rows::shown::shown_by;
 use std::alloc::{AllocError, Global};
-use undo_base::{Flags, Key, Keys, Name, NoMemory, Text, User};
+use undo_base::{END_OF_NUMBERS, Flags, Key, Keys, Name, NoMemory, Text, User};
 use verb_core::{Ask, Deed, Entry, Item, Refused, who_acts};
 
 /// The first refusal by keys, by sizes and by what is used up.
@@ -24,7 +24,7 @@ fn refused_later(
     ask: &Ask,
 ) -> Result<Option<Refused>, NoMemory>
     requires house { IsTrue (is_house store.now.store.house) }
-    requires number { number ≤ 4194304 }
+    requires number { number ≤ END_OF_NUMBERS }
     ensures { IfOk result (λ refused. refused ≡ first_of (by_keys store.now.store by ask.now ∷ by_room store.now.store number by ask.now ∷ [])) }
 {
     match refused_by_keys(alloc, store, by, ask)? {
@@ -43,7 +43,7 @@ fn first_refusal(
     deep: bool,
 ) -> Result<Option<Refused>, NoMemory>
     requires house { IsTrue (is_house store.now.store.house) }
-    requires number { number ≤ 4194304 }
+    requires number { number ≤ END_OF_NUMBERS }
     ensures { IfOk result (λ refused. refused ≡ in_turn store.now.store number by ask.now deep) }
 {
     match refused_by_names(store, by, ask, deep) {
@@ -62,7 +62,7 @@ fn why_not(
     deep: bool,
 ) -> Option<Refused>
     requires house { IsTrue (is_house store.now.store.house) }
-    requires number { number ≤ 4194304 }
+    requires number { number ≤ END_OF_NUMBERS }
     ensures none { IfNone result (in_turn store.now.store number by ask.now deep ≡ None) }
     ensures some { IfSome result (λ refused. IsDue refused (in_turn store.now.store number by ask.now deep)) }
 {
@@ -266,7 +266,7 @@ impl Store {
         deep: bool,
     ) -> Result<Item, Refused>
         requires valid { IsValid self.now.store }
-        requires number { number ≤ 4194304 }
+        requires number { number ≤ END_OF_NUMBERS }
         requires by { IsSome by ↔ IsTrue (is_users ask) }
         requires known { IsTrue (list_all (is_known self.now.store.house) (cons_option by [])) }
         ensures item { IfOk result (λ item. live self.now.store number at by ask deep ≡ Ok item) }

@@ -118,10 +118,7 @@ pub fn moved_name(
 {
     let mut bytes = Text::of(alloc, target.bytes())?;
     bytes.extend(behind(name.bytes(), source.bytes().len()))?;
-    match Name::read(alloc, bytes.bytes()) {
-        Ok(name) => Ok(name),
-        Err(_) => Err(NoMemory),
-    }
+    Name::fit(alloc, bytes.bytes())
 }
 
 fn move_of(alloc: Global, source: &Name, target: &Name, name: &Name) -> Result<Move, NoMemory>

@@ -18,7 +18,9 @@ use mail_rows::aims::reach_delivery;
 use mail_rows::lookup::rows_of;
 use mail_rows::sights::there_of;
 use std::alloc::Global;
-use undo_base::{Keys, LAST_NUMBER, MOST_BOXES, MOST_UID, Name, Names, NoMemory, Text, User};
+use undo_base::{
+    END_OF_NUMBERS, Keys, LAST_NUMBER, MOST_BOXES, MOST_UID, Name, Names, NoMemory, Text, User,
+};
 use verb_core::{Aim, Ask, Refused, is_inbox, names_with_superiors, who_acts};
 
 /// How many mailboxes the user has.
@@ -258,7 +260,7 @@ pub(crate) fn refused_by_room(
     ask: &Ask,
 ) -> Result<Option<Refused>, NoMemory>
     requires house { IsTrue (is_house store.now.store.house) }
-    requires number { number ≤ 4194304 }
+    requires number { number ≤ END_OF_NUMBERS }
     ensures { IfOk result (λ refused. refused ≡ by_room store.now.store number by ask.now) }
 {
     if fills_up(alloc, store, by, ask)? {

@@ -1,5 +1,6 @@
 -- Days of the Gregorian calendar from 1970 on, and moments in seconds since 1970 in UTC.
 use Rattle.std.specs.Prelude.{◌≡◌, ℕ, zero, suc, ◌+◌, ◌-◌, nat_lt, min, if◌then◌else◌, ℤ, pos, negsuc, ◌+ℤ◌, ◌-ℤ◌, ◌*ℤ◌}
+use Rattle.undo_base.specs.declared.limits.TheConstants.{LAST_MOMENT}
 use Rattle.jiff_core.specs.Calendar.{IsCivilDate, days_from_civil, days_in_month, days_in_year}
 use Rattle.civil_dates.specs.declared.days.Day.{Day}
 
@@ -27,7 +28,7 @@ civil_day days = day_from_year days 1970 days
 
 -- a moment before 1970 is kept as 0, and one after the year 9999 as its last second
 abbrev pub kept : ℤ → ℕ
-kept (pos n) = min n 253402300799
+kept (pos n) = min n LAST_MOMENT
 kept (negsuc n) = 0
 
 -- the seconds since 1970 of a date and a second of the day at a zone, which is so many minutes ahead of UTC

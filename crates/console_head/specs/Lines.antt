@@ -1,6 +1,7 @@
 -- The head of a request, cut out of bytes by their lines (RFC 9112, 2.2).
 use Rattle.std.specs.Prelude.{ℕ, ◌+◌, Bool, ◌==◌, ◌||◌, List, [], ◌∷◌, length, Option, Some, None, option_map, if◌then◌else◌}
 use Rattle.std.specs.Str.{bytes_eq}
+use Rattle.undo_base.specs.LineEnd.{crlf}
 use Rattle.console_head.specs.declared.lines.Head.{Head}
 
 -- the byte goes onto the first line
@@ -15,7 +16,7 @@ lines_of (b ∷ bytes) = if b == 10 then (b ∷ []) ∷ lines_of bytes else onto
 
 -- LF or CRLF alone
 abbrev pub is_empty_line : List ℕ → Bool
-is_empty_line line = bytes_eq line (10 ∷ []) || bytes_eq line (13 ∷ 10 ∷ [])
+is_empty_line line = bytes_eq line (10 ∷ []) || bytes_eq line crlf
 
 -- a line that stands before the others, and counts so many header lines
 abbrev pub behind : List ℕ → ℕ → Head → Head

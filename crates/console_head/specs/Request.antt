@@ -3,6 +3,7 @@ use Rattle.std.specs.Prelude.{◌≡◌, ◌⊎◌, ℕ, Bool, true, false, List
 use Rattle.httparse.specs.Grammar.{RequestHead, ReadsRequest}
 use Rattle.httparse.specs.Spans.{name_and_value}
 use Rattle.console_head.specs.declared.lines.Head.{Head}
+use Rattle.console_head.specs.declared.request.TheConstants.{MOST_BODY}
 use Rattle.console_head.specs.declared.request.HeadRefused.{HeadRefused}
 use Rattle.console_head.specs.declared.request.HeadRefused.TheVariants.{Head as BadHead, Size}
 use Rattle.console_head.specs.Lines.{head_of}
@@ -26,7 +27,7 @@ IsWhole text h = ReadsRequest text h []
 abbrev pub with_length : RequestHead → List ℕ → Option ℕ → Stage
 with_length h rest None = Err BadHead
 with_length h rest (Some n) =
-    if nat_lt 4194304 n then Err Size
+    if nat_lt MOST_BODY n then Err Size
     else (if nat_lt (length rest) n then Ok None
     else Ok (Some (record { method = h.method; target = h.target; body = take n rest })))
 

@@ -4,6 +4,7 @@ use Rattle.httparse.specs.Grammar.{RequestHead}
 use Rattle.httparse.specs.Spans.{name_and_value}
 use Rattle.console_head.specs.declared.request.Request.{Request as Parts}
 use Rattle.console_head.specs.declared.request.Announced.{Announced}
+use Rattle.console_head.specs.declared.request.TheConstants.{MOST_BODY}
 use Rattle.console_head.specs.declared.request.HeadRefused.{HeadRefused}
 use Rattle.console_head.specs.declared.request.HeadRefused.TheVariants.{Head as BadHead}
 use Rattle.console_head.specs.Lengths.{body_length}
@@ -21,7 +22,7 @@ seen (Err refused) = Err refused
 pub record IsAnnounced (a : Announced) (h : RequestHead) : Type 0 where
   pub method : a.method.now ≡ h.method
   pub target : a.target.now ≡ h.target
-  pub most : a.length ≤ 4194304
+  pub most : a.length ≤ MOST_BODY
   pub length : body_length (map name_and_value h.fields) ≡ Some a.length
 
 -- a text announces what the head does that it is as a whole, or it is refused, whatever follows it

@@ -1,6 +1,7 @@
 //! What the definitions of requests imply. These functions do nothing: their contracts are laws of the definitions.
 ghost use Rattle.std.specs.Prelude.{◌≡◌, ◌<◌, ◌≤◌, List, ℕ, ◌++◌, length, take, drop, Ok, Some, None};
 ghost use Rattle.console_head.specs.declared.lines.Head.{Head};
+ghost use Rattle.console_head.specs.declared.request.TheConstants.{MOST_BODY};
 ghost use Rattle.console_head.specs.Lines.{head_of};
 ghost use Rattle.console_head.specs.Request.{Says, Stage};
 
@@ -20,5 +21,5 @@ pub fn what_waits_is_bounded()
     ensures both { (bytes : List ℕ) → Says bytes (Ok None) → length bytes < 4210688 }
     ensures head { (bytes : List ℕ) → Says bytes (Ok None) → head_of (take 16384 bytes) ≡ None → length bytes < 16384 }
     ensures body { (bytes : List ℕ) (first : Head) → Says bytes (Ok None) → head_of (take 16384 bytes) ≡ Some first →
-        (first.size ≤ 16384) × (length (drop first.size bytes) < 4194304) }
+        (first.size ≤ 16384) × (length (drop first.size bytes) < MOST_BODY) }
 {}

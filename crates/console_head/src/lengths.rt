@@ -12,7 +12,7 @@ ghost use Rattle.console_head.specs.Lengths.{is_named as named, is_coding as cod
 
 use crate::request::MOST_BODY;
 use httparse::spans::HeaderSpan;
-use undo_base::{after, are_digits};
+use undo_base::{after, are_digits, number_up_to};
 
 fn is_named(name: &[u8], wanted: &[u8]) -> bool
     ensures { result ≡ bytes_eq (str_to_ascii_lowercase name.now) (str_to_ascii_lowercase wanted.now) }
@@ -72,11 +72,7 @@ fn number_in(digits: &[u8]) -> u32
     requires { list_all is_ascii_digit digits.now ≡ true }
     ensures { result ≡ min (number_of digits.now) 4194305 }
 {
-    let mut number = 0;
-    for digit in digits {
-        number = (10 * number + (*digit - b'0') as u32).min(MOST_BODY + 1);
-    }
-    number
+    number_up_to(u64::from(MOST_BODY) + 1, digits) as u32
 }
 
 fn has_coding(text: &[u8], headers: &[HeaderSpan]) -> bool

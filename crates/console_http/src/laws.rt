@@ -1,5 +1,6 @@
 //! What the definitions of requests imply. These functions do nothing: their contracts are laws of the definitions.
 ghost use Rattle.std.specs.Prelude.{◌≤◌, IsTrue, List, ℕ, Result};
+ghost use Rattle.undo_base.specs.declared.limits.TheConstants.{LAST_MOMENT};
 ghost use Rattle.verb_core.specs.declared.conf.House.{House as TheHouse};
 ghost use Rattle.verb_core.specs.Store.{is_house};
 ghost use Rattle.console_http.specs.declared.request.Asked.{Asked as TheAsked};
@@ -14,6 +15,6 @@ pub fn acts_name_known_users()
 /// An act or a cycle that is asked for has a spelling as a record, under each number of 32 bits and at each moment up to the
 /// last.
 pub fn asks_have_spellings()
-    ensures { (house : TheHouse) (bytes : List ℕ) (asked : Result TheAsked TheRefused) (number at : ℕ) → IsTrue (is_house house) → number ≤ 4294967295 → at ≤ 253402300799 →
+    ensures { (house : TheHouse) (bytes : List ℕ) (asked : Result TheAsked TheRefused) (number at : ℕ) → IsTrue (is_house house) → number ≤ 4294967295 → at ≤ LAST_MOMENT →
         Asks house bytes asked → AskRecords number at asked }
 {}

@@ -2,9 +2,7 @@
 use Rattle.std.specs.Prelude.{ℕ, Bool, List, [], ◌∷◌, ◌++◌, ◌==◌, length, codes, if◌then◌else◌}
 use Rattle.std.specs.Fmt.{decimal}
 use Rattle.std.specs.List.{list_any}
-
-abbrev pub crlf : List ℕ
-crlf = 13 ∷ 10 ∷ []
+use Rattle.undo_base.specs.LineEnd.{crlf}
 
 -- the statuses that the console gives
 abbrev pub is_status : ℕ → Bool

@@ -1,5 +1,6 @@
 -- One turn of a console connection: the answer to its request.
 use Rattle.std.specs.Prelude.{ℕ, List, [], ◌∷◌, length, nat_lt, None, Some, Result, Ok, Err, if◌then◌else◌}
+use Rattle.undo_base.specs.declared.limits.TheConstants.{END_OF_NUMBERS}
 use Rattle.verb_core.specs.declared.conf.House.{House}
 use Rattle.verb_core.specs.declared.item.Act.{Act}
 use Rattle.verb_bytes.specs.declared.journal.CycleAsk.{CycleAsk}
@@ -79,7 +80,7 @@ failed kept what = record {
 
 -- what becomes of an act for which a number is left, or that none is left
 abbrev pub numbered : Kept → ConsoleTurn → ConsoleTurn
-numbered kept t = if nat_lt kept.next 4194304 then t else numberless kept
+numbered kept t = if nat_lt kept.next END_OF_NUMBERS then t else numberless kept
 
 -- ---- cycles and withdrawals
 

@@ -1,5 +1,6 @@
 -- How a turn may go otherwise.
 use Rattle.std.specs.Prelude.{ℕ, Bool, true, false, List, [], nat_lt, Option, None, Some, Result, Ok, Err, if◌then◌else◌}
+use Rattle.undo_base.specs.declared.limits.TheConstants.{END_OF_NUMBERS}
 use Rattle.verb_core.specs.declared.item.Act.{Act}
 use Rattle.verb_bytes.specs.declared.journal.CycleAsk.{CycleAsk}
 use Rattle.verb_bytes.specs.declared.journal.JournalRecord.{JournalRecord}
@@ -163,7 +164,7 @@ found_under some h kept (Some x) t = read_under (where_read some h) kept t
 -- what becomes of an act; where no number is left nothing is to be sealed
 abbrev pub acted_under : Hindrance → ℕ → Kept → Act → ConsoleTurn
 acted_under h at kept act =
-    if nat_lt kept.next 4194304 then sealed_under h kept (done at kept act) (failed kept (Operator kept.next at act)) else told_under h kept (numberless kept)
+    if nat_lt kept.next END_OF_NUMBERS then sealed_under h kept (done at kept act) (failed kept (Operator kept.next at act)) else told_under h kept (numberless kept)
 
 -- what becomes of a request for a cycle or a withdrawal, by what is due to it, and whether something may be to be read for it
 abbrev pub gone_back_under : Bool → Hindrance → Kept → Answer → JournalRecord → (Cycled → Kept) → Due → ConsoleTurn

@@ -2,6 +2,7 @@
 use Rattle.std.specs.Prelude.{◌≡◌, ◌+◌, ◌≤◌, ◌<◌, ℕ, false, true, List, drop, length, map, None, Some, IsTrue, Result, Ok, Err}
 use Rattle.std.specs.List.{AllByRecursion, list_all}
 use Rattle.std.specs.FinMap.Entries as rows
+use Rattle.undo_base.specs.declared.limits.TheConstants.{END_OF_NUMBERS}
 use Rattle.undo_base.specs.declared.keys.Key.{Key}
 use Rattle.undo_base.specs.declared.keys.User.{User}
 use Rattle.seal_log.specs.Journal.{IsPayload}
@@ -57,7 +58,7 @@ pub record CanBeFounded (s : Kept) : Type 0 where
 -- a journal can have, and its reports stand by key and name known users.
 pub record CanBeCut (s : Kept) : Type 0 where
   pub begins : first_fore (Format s.house s.opening) ≡ Some (record { house = s.house; opening = s.opening; based = None })
-  pub next : s.next ≤ 4194304
+  pub next : s.next ≤ END_OF_NUMBERS
   pub reports : IsTrue (are_reports s.house s.reports)
 
 -- ---- the bytes of a cut

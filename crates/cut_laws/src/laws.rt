@@ -1,6 +1,7 @@
 //! Laws of the definitions of cuts. These functions do nothing: their contracts are the laws.
 ghost use Rattle.std.specs.Prelude.{◌≡◌, ◌≢◌, ◌⊎◌, ◌+◌, ◌*◌, ◌<◌, ◌≤◌, ◌++◌, ℕ, List, length, Some, Result, Ok, Err};
 ghost use Rattle.std.specs.List.{AllByRecursion};
+ghost use Rattle.undo_base.specs.declared.limits.TheConstants.{END_OF_NUMBERS};
 ghost use Rattle.undo_base.specs.declared.keys.Key.{Key};
 ghost use Rattle.undo_base.specs.declared.keys.User.{User};
 ghost use Rattle.seal_log.specs.Journal.{IsPayload};
@@ -144,7 +145,7 @@ pub fn messages_of_a_base_have_one_fate()
 /// What a journal's records leave has as many items as there are numbers at most. Where the records are those of an image, the
 /// mailboxes of its base, and 200 more for each item, are no more than four bytes count.
 pub fn images_hold_few_mailboxes()
-    ensures items { (records : List JournalRecord) (kept : Kept) → state records ≡ Some kept → length kept.timeline ≤ 4194304 }
+    ensures items { (records : List JournalRecord) (kept : Kept) → state records ≡ Some kept → length kept.timeline ≤ END_OF_NUMBERS }
     ensures mailboxes { (records : List JournalRecord) (kept : Kept) (image : List ℕ) → StandsForRecords records image → state records ≡ Some kept →
         length kept.base.boxes + 200 * length kept.timeline ≤ 4294967295 }
 {

@@ -5,6 +5,7 @@
 use Rattle.std.specs.Prelude.{◌≡◌, ℕ, ◌==◌, nat_lt, Bool, true, false, ◌&&◌, not, List, [], ◌∷◌, map, length, nat_le, is_some, Option, Some, None, option_and_then, option_map, if◌then◌else◌}
 use Rattle.std.specs.Coded.{Coded, codes}
 use Rattle.std.specs.Option.{option_map_or}
+use Rattle.undo_base.specs.declared.limits.TheConstants.{END_OF_NUMBERS}
 use Rattle.verb_core.specs.Deeds.{act_item}
 use Rattle.verb_core.specs.declared.conf.Conf.{Conf}
 use Rattle.verb_core.specs.declared.item.Item.{Item}
@@ -68,7 +69,7 @@ place_rewound_to kept _ = None
 
 -- whether an item can follow: it has the next number, there is one left, and it can be recorded
 abbrev pub can_follow : Kept → Item → Bool
-can_follow kept i = (i.number == kept.next) && nat_lt kept.next 4194304 && is_formed kept.house i
+can_follow kept i = (i.number == kept.next) && nat_lt kept.next END_OF_NUMBERS && is_formed kept.house i
 
 -- what is kept after the item of a record, where it can stand
 abbrev pub after_item : Kept → JournalRecord → Item → Option Kept

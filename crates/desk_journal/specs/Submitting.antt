@@ -1,5 +1,6 @@
 -- What becomes of an ask, of an act, of a snapshot and of an upgrade.
 use Rattle.std.specs.Prelude.{◌≡◌, ◌≢◌, ◌⊎◌, ℕ, ◌+◌, ◌<◌, true, false, List, [], ◌∷◌, length, Result, Ok, Err, OnOk, OnErr, IsErrOf, IsTrue}
+use Rattle.undo_base.specs.declared.limits.TheConstants.{END_OF_NUMBERS}
 use Rattle.undo_outside.specs.Disk.{DiskTold, WriteOutOfMemory}
 use Rattle.verb_core.specs.declared.ask.Refused.{Refused}
 use Rattle.verb_core.specs.declared.ask.SubmitFault.{SubmitFault}
@@ -101,9 +102,9 @@ module _ {D : Type 0} (told : D → DiskTold) where
 
   -- The same of an operator's act at a moment: no number is left, exactly where it says so.
   abbrev pub ActsNone : ℕ → Act → Lasting D → Lasting D → ActFault → Type 0
-  ActsNone at act old new (act_faults.Numbers next) = (old.closed ≡ false) × (next ≡ old.kept.next) × (old.kept.next ≡ 4194304) × (new ≡ old)
-  ActsNone at act old new act_faults.Disk = (old.closed ≡ false) × (old.kept.next < 4194304) × Seals told [] (Operator old.kept.next at act ∷ []) old new
-  ActsNone at act old new act_faults.NoMemory = (old.closed ≡ false) × (old.kept.next < 4194304) × SealsNothing old new
+  ActsNone at act old new (act_faults.Numbers next) = (old.closed ≡ false) × (next ≡ old.kept.next) × (old.kept.next ≡ END_OF_NUMBERS) × (new ≡ old)
+  ActsNone at act old new act_faults.Disk = (old.closed ≡ false) × (old.kept.next < END_OF_NUMBERS) × Seals told [] (Operator old.kept.next at act ∷ []) old new
+  ActsNone at act old new act_faults.NoMemory = (old.closed ≡ false) × (old.kept.next < END_OF_NUMBERS) × SealsNothing old new
   ActsNone at act old new act_faults.Closed = IsTrue old.closed × (new ≡ old)
 
   -- A snapshot of what is kept was sealed, and marked; it is told how many items are in force.

@@ -23,7 +23,7 @@ use crate::spelling::act_bytes;
 use mail_desk::Ready;
 use seal_log::SealFault;
 use std::alloc::Global;
-use undo_base::{LAST_NUMBER, NoMemory, Text};
+use undo_base::{END_OF_NUMBERS, LAST_NUMBER, NoMemory, Text};
 use undo_outside::Disk;
 use verb_bytes::act_text_from;
 use verb_core::{Act, Deed, Item, Shown};
@@ -44,8 +44,8 @@ pub fn item_of(number: u32, at: u64, act: Act) -> Item
 
 /// The number of the next item, where one is left.
 fn next_number(desk: &mail_desk::Desk) -> Result<u32, ActFault>
-    ensures ok { IfOk result (λ number. (number ≡ desk.now.kept.next) × (number < 4194304)) }
-    ensures err { IfErr result (λ fault. (fault ≡ act_faults.Numbers desk.now.kept.next) × (desk.now.kept.next ≡ 4194304)) }
+    ensures ok { IfOk result (λ number. (number ≡ desk.now.kept.next) × (number < END_OF_NUMBERS)) }
+    ensures err { IfErr result (λ fault. (fault ≡ act_faults.Numbers desk.now.kept.next) × (desk.now.kept.next ≡ END_OF_NUMBERS)) }
 {
     desk.stands();
     let next = desk.next();
@@ -74,7 +74,7 @@ fn with_room(
 ) -> Result<FoundAct, NoMemory>
     requires formed { IsWellFormed desk.old.kept.house item }
     requires number { item.number ≡ desk.old.kept.next }
-    requires left { desk.old.kept.next < 4194304 }
+    requires left { desk.old.kept.next < END_OF_NUMBERS }
     ensures kept { desk.new.kept ≡ desk.old.kept }
     ensures notes { desk.new.notes ≡ desk.old.notes }
     ensures marks { desk.new.marks ≡ desk.old.marks }
@@ -100,7 +100,7 @@ fn ready_act(
     act: Act,
 ) -> Result<FoundAct, NoMemory>
     requires known { IsTrue (list_all (is_known desk.old.kept.house) (users_in (Acts act))) }
-    requires left { desk.old.kept.next < 4194304 }
+    requires left { desk.old.kept.next < END_OF_NUMBERS }
     ensures kept { desk.new.kept ≡ desk.old.kept }
     ensures notes { desk.new.notes ≡ desk.old.notes }
     ensures marks { desk.new.marks ≡ desk.old.marks }
@@ -168,7 +168,7 @@ fn act_numbered<D: Disk>(
 ) -> Result<(), ActFault>
     requires open { journal.old.closed ≡ false }
     requires known { IsTrue (list_all (is_known desk.old.kept.house) (users_in (Acts act))) }
-    requires left { desk.old.kept.next < 4194304 }
+    requires left { desk.old.kept.next < END_OF_NUMBERS }
     ensures ok { OnOk result (Seals D.told (Operator desk.old.kept.next at act ∷ []) [] (lasting desk.old journal.old) (lasting desk.new journal.new)) }
     ensures performed { OnOk result (desk.new.kept ≡ performed desk.old.kept (act_item desk.old.kept.next at act)) }
     ensures noted { TextsNoted journal.old.gate desk.old.notes desk.old.kept → TextsNoted journal.new.gate desk.new.notes desk.new.kept }

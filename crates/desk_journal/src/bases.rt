@@ -30,7 +30,7 @@ use mail_desk::BaseParts;
 use paradox::Report;
 use std::alloc::Global;
 use std::cmp::Ordering;
-use undo_base::{Key, LAST_NUMBER, Name, NoMemory, User};
+use undo_base::{END_OF_NUMBERS, Key, Name, NoMemory, User};
 use verb_core::{BoxId, Entry, House, Mailbox};
 
 /// A user, and the key of a message of theirs.
@@ -40,9 +40,9 @@ type HeldKey = (User, Key);
 
 /// Whether a number can be the next of a journal: one behind the last, where numbers are used up.
 fn is_next(next: u32) -> bool
-    ensures { result ≡ nat_le next 4194304 }
+    ensures { result ≡ nat_le next END_OF_NUMBERS }
 {
-    next <= LAST_NUMBER + 1
+    next <= END_OF_NUMBERS
 }
 
 /// Whether the numbers that an entry names are below the next.
@@ -272,7 +272,7 @@ fn are_reports(house: &House, reports: &[(Name, Report)]) -> bool
 
 /// Whether the numbers of a base can be such, its mailboxes make a store, and its stamps and reports can be such.
 fn are_parts(house: &House, parts: &BaseParts) -> bool
-    ensures { result ≡ (nat_le parts.now.next 4194304 && makes_store_of house.now parts.now.conf parts.now.rows && list_all (is_entry_below parts.now.next) (entries_of parts.now.rows) && may_stamp house.now parts.now.next parts.now.stamps && may_report house.now parts.now.reports) }
+    ensures { result ≡ (nat_le parts.now.next END_OF_NUMBERS && makes_store_of house.now parts.now.conf parts.now.rows && list_all (is_entry_below parts.now.next) (entries_of parts.now.rows) && may_stamp house.now parts.now.next parts.now.stamps && may_report house.now parts.now.reports) }
 {
     is_next(parts.next)
         && makes_store(house, &parts.conf, parts.rows.as_slice())

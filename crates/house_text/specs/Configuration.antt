@@ -5,6 +5,7 @@ use Rattle.std.specs.Option.{option_map_or}
 use Rattle.std.specs.Str.{str_to_ascii_lowercase}
 use Rattle.toml.specs.Data.{Data, Members, get_member, as_str, as_integer, as_array, as_table}
 use Rattle.toml.specs.Parse.{parse_document}
+use Rattle.undo_base.specs.declared.limits.TheConstants.{LAST_NUMBER}
 use Rattle.undo_base.specs.declared.keys.User.{User}
 use Rattle.verb_core.specs.declared.conf.Account.{Account}
 use Rattle.verb_core.specs.declared.conf.Alias.{Alias}
@@ -76,7 +77,7 @@ postmaster_of accounts table = text_at (codes "postmaster") table >>= user_named
 
 -- the first number that an item can have
 abbrev pub first_number : ℤ → Option ℕ
-first_number (pos n) = if nat_le 2 n && nat_le n 4194303 then Some n else None
+first_number (pos n) = if nat_le 2 n && nat_le n LAST_NUMBER then Some n else None
 first_number (negsuc n) = None
 
 -- 2 where there is none

@@ -12,7 +12,7 @@ use crate::tables::{list_at, text_at, text_of, value_at};
 use crate::words::{are_distinct, is_host};
 use std::alloc::Global;
 use toml::{Table, Value};
-use undo_base::{Name, Names, NoMemory};
+use undo_base::{LAST_NUMBER, Name, Names, NoMemory};
 use verb_core::House;
 
 #[tactic(auto, using(crate::proofs::Named::host_name))]
@@ -90,13 +90,13 @@ fn domains_in(alloc: Global, table: &Table) -> Result<Option<Names>, NoMemory>
 /// The first number that an item can have.
 fn first_of(value: Option<&Value>) -> Option<u32>
     ensures value { result ≡ spec.first_of (option_map (λ v. view v.now) value.entry) }
-    ensures bounds { IfSome result (λ n. (2 ≤ n) × (n ≤ 4194303)) }
+    ensures bounds { IfSome result (λ n. (2 ≤ n) × (n ≤ LAST_NUMBER)) }
 {
     let Some(value) = value else {
         return Some(2);
     };
     let number = value.as_integer()?;
-    if number < 2 || number > 4194303 {
+    if number < 2 || number > i64::from(LAST_NUMBER) {
         return None;
     }
     Some(number as u32)

@@ -2,6 +2,7 @@
 use Rattle.std.specs.Prelude.{ℕ, Bool, not, true, ◌&&◌, Option, None, Some, List, [], ◌∷◌, ◌++◌, codes, map, flat_map, min, get_or, if◌then◌else◌}
 use Rattle.std.specs.List.{list_any, enumerate_from}
 use Rattle.std.specs.Fmt.{decimal}
+use Rattle.undo_base.specs.declared.limits.TheConstants.{LAST_MOMENT}
 use Rattle.undo_base.specs.declared.keys.Flags.{Flags}
 use Rattle.verb_core.specs.Mailboxes.{changed, no_flags}
 use Rattle.undo_base.specs.declared.asks.How.TheVariants.{Add}
@@ -23,7 +24,7 @@ use Rattle.imap_fetch.specs.Asked.{is_uid, is_flags}
 
 -- a moment past the year 9999 is told as its last second
 abbrev pub dated : ℕ → ℕ
-dated at = min at 253402300799
+dated at = min at LAST_MOMENT
 
 -- a word and field names
 unfoldable pub field_list : List ℕ → List (List ℕ) → List ℕ

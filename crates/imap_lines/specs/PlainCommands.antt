@@ -4,6 +4,7 @@ use Rattle.std.specs.Prelude.{◌≡◌, ℕ, Bool, true, false, ◌<◌, ◌≤
 use Rattle.std.specs.Fmt.{decimal}
 use Rattle.std.specs.List.{list_all, AllByRecursion}
 use Rattle.civil_dates.specs.Dates.{imap_date}
+use Rattle.undo_base.specs.declared.limits.TheConstants.{LAST_MOMENT}
 use Rattle.undo_base.specs.declared.asks.How.{How}
 use Rattle.undo_base.specs.declared.asks.How.TheVariants.{Replace, Add, Take}
 use Rattle.undo_base.specs.declared.asks.StatusAsk.{StatusAsk}
@@ -241,7 +242,7 @@ AreAsks asks = (asks ≡ ask.Fast ∷ []) ⊎ ((0 < length asks) × AllByRecursi
 -- a moment that is kept
 abbrev pub IsMoment : Option ℕ → Type 0
 IsMoment None = Unit {0}
-IsMoment (Some at) = at ≤ 253402300799
+IsMoment (Some at) = at ≤ LAST_MOMENT
 
 -- A command that the grammar has: it names something, and its numbers and names are in their ranges.
 abbrev pub IsWritable : ImapWhat → Type 0

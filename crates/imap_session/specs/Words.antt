@@ -1,5 +1,6 @@
 -- What a client is told besides untagged data (RFC 3501, 7.1).
 use Rattle.std.specs.Prelude.{ℕ, Bool, List, [], ◌++◌, codes, Option, None, Some, if◌then◌else◌}
+use Rattle.undo_base.specs.LineEnd.{crlf}
 use Rattle.verb_core.specs.declared.ask.Refused.{Refused}
 use Rattle.verb_core.specs.declared.ask.Refused.TheVariants as refused
 use Rattle.verb_core.specs.declared.conf.House.{House}
@@ -9,7 +10,6 @@ use Rattle.imap_stream.specs.declared.next.LineFault.TheVariants as fault
 use Rattle.imap_lines.specs.declared.command.ImapRefused.{ImapRefused}
 use Rattle.imap_lines.specs.declared.command.ImapRefused.TheVariants as unread
 use Rattle.imap_text.specs.Answers.{delimiter}
-use Rattle.imap_text.specs.Words.{crlf}
 use Rattle.imap_session.specs.declared.words.Word.{Word}
 use Rattle.imap_session.specs.declared.words.Word.TheVariants as word
 use Rattle.imap_session.specs.declared.words.Answer.{Answer}

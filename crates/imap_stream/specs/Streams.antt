@@ -1,6 +1,7 @@
 -- A stream as its commands (RFC 3501, 2.2.1, 4.3 and 9): lines, each followed by CRLF, and the literals that they announce, each behind the CRLF of its line.
 use Rattle.std.specs.Prelude.{◌≡◌, ℕ, true, ◌+◌, ◌<◌, ◌≤◌, List, [], ◌∷◌, ◌++◌, length, map, sum_by, Option, None, Some}
 use Rattle.std.specs.List.{AllByRecursion, flat_map}
+use Rattle.undo_base.specs.LineEnd.{crlf}
 use Rattle.undo_base.specs.Digits.{number_of}
 use Rattle.imap_stream.specs.LiteralMarks.{tag_of, all_digits}
 use Rattle.imap_stream.specs.Commands.{end_of}
@@ -37,7 +38,7 @@ marked_line text digits = text ++ (123 ∷ digits ++ 125 ∷ [])
 
 -- a line and its CRLF on the stream
 abbrev pub ended_line : List ℕ → List ℕ
-ended_line line = line ++ 13 ∷ 10 ∷ []
+ended_line line = line ++ crlf
 
 -- a line and its literal on the stream
 abbrev pub part_bytes : Part → List ℕ

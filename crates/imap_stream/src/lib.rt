@@ -22,7 +22,7 @@ pub use begun::{Awaits, Begun};
 pub use buffer::Buffer;
 pub use cut::cut_all;
 pub use laws::one_reading;
-pub use marks::{Mark, are_few_digits, is_atom_char, number, read_tag};
+pub use marks::{Mark, are_few_digits, is_atom_char, read_tag};
 pub use next::{BadLine, LineFault, Next, Nexts, RawCommand};
 pub use picks::{
     PickRefused, SetRange, SetText, Span, join_spans, lower_end, pick, pick_numbers, upper_end,

@@ -1,13 +1,12 @@
 //! The tags of lines, and the marks of literals.
 //!
 //! A space behind the `}` makes it no mark. The digits of a mark may begin with zeros; eleven digits are no mark.
-ghost use Rattle.std.specs.Prelude.{◌≡◌, ◌≤◌, ◌<◌, true, length, IsTrue, IfSome, option_map};
+ghost use Rattle.std.specs.Prelude.{◌≡◌, ◌<◌, true, length, IfSome, option_map};
 ghost use Rattle.std.specs.List.{list_all};
-ghost use Rattle.undo_base.specs.Digits.{number_of};
 ghost use Rattle.undo_base.specs.Name.{is_name};
 ghost use Rattle.imap_stream.specs.LiteralMarks.{is_atom_byte, is_tag_byte, is_tag, before_space, tag_of, all_digits, last_brace, size_in, mark_of};
 
-use undo_base::are_digits;
+use undo_base::{are_digits, number_in};
 
 /// A literal mark in a line.
 #[derive(Clone, Copy, Debug, PartialEq, Eq)]
@@ -26,18 +25,6 @@ pub fn are_few_digits(bytes: &[u8]) -> bool
     ensures { result ≡ all_digits bytes.now }
 {
     !bytes.is_empty() && bytes.len() <= MOST_DIGITS && are_digits(bytes)
-}
-
-/// The number that 1 to 10 digits spell.
-pub fn number(digits: &[u8]) -> u64
-    requires { IsTrue (all_digits digits.now) }
-    ensures { result ≡ number_of digits.now }
-{
-    let mut value = 0;
-    for digit in digits {
-        value = 10 * value + u64::from(*digit - b'0');
-    }
-    value
 }
 
 /// Whether the byte may stand in an atom.
@@ -116,7 +103,7 @@ fn size(tail: &[u8]) -> Option<u64>
         return None;
     };
     if *close == b'}' && are_few_digits(digits) {
-        Some(number(digits))
+        Some(number_in(digits))
     } else {
         None
     }

@@ -4,7 +4,7 @@ use imap_stream::{Next, PickRefused, RawCommand, SetRange, SetText, cut_all, pic
 use imap_text::date_text;
 use std::alloc::Global;
 use std::test::Fail;
-use undo_base::{Text, Texts, Uids};
+use undo_base::{LAST_MOMENT, Text, Texts, Uids};
 
 fn texts(alloc: Global, pieces: &[&[u8]]) -> Result<Texts, Fail> {
     let mut texts = Texts::new(alloc);
@@ -140,7 +140,7 @@ fn sets_name_places_of_a_view(rt: HostRuntime) -> Result<(), Fail> {
 }
 
 fn is_date(alloc: Global, at: u64, text: &[u8]) -> Result<bool, Fail> {
-    if at > 253402300799 {
+    if at > LAST_MOMENT {
         return Ok(false);
     }
     Ok(date_text(alloc, at)?.bytes() == text)
@@ -150,6 +150,6 @@ fn is_date(alloc: Global, at: u64, text: &[u8]) -> Result<bool, Fail> {
 fn moments_are_written_as_dates(rt: HostRuntime) -> Result<(), Fail> {
     let alloc = rt.alloc();
     assert!(rt; is_date(alloc, 1105092000, b"\" 7-Jan-2005 10:00:00 +0000\"")?);
-    assert!(rt; is_date(alloc, 253402300799, b"\"31-Dec-9999 23:59:59 +0000\"")?);
+    assert!(rt; is_date(alloc, LAST_MOMENT, b"\"31-Dec-9999 23:59:59 +0000\"")?);
     Ok(())
 }

@@ -1,6 +1,7 @@
 -- IMAP's untagged answers (RFC 3501, 7.2 to 7.4).
 use Rattle.std.specs.Prelude.{ℕ, ◌+◌, ◌-◌, ◌≤◌, Bool, true, false, List, [], ◌∷◌, ◌++◌, codes, map, flat_map, Option, Some, None, if◌then◌else◌}
 use Rattle.std.specs.Fmt.{decimal}
+use Rattle.undo_base.specs.declared.limits.TheConstants.{LAST_MOMENT}
 use Rattle.undo_base.specs.declared.keys.Flags.{Flags}
 use Rattle.undo_base.specs.declared.asks.StatusAsk.{StatusAsk}
 use Rattle.undo_base.specs.declared.asks.StatusAsk.TheVariants.{Messages, Recent, UidNext, UidValidity, Unseen}
@@ -29,7 +30,7 @@ fetch_line n parts = line (decimal n ++ codes " FETCH " ++ listed (map part_text
 abbrev pub IsDated : FetchValue → Type 0
 IsDated (FlagsValue flags) = Unit {0}
 IsDated (Number n) = Unit {0}
-IsDated (Moment at) = at ≤ 253402300799
+IsDated (Moment at) = at ≤ LAST_MOMENT
 IsDated (Literal bytes) = Unit {0}
 
 abbrev pub HasDate : FetchPart → Type 0

@@ -2,11 +2,9 @@
 use Rattle.std.specs.Prelude.{ℕ, ◌==◌, ◌||◌, Bool, List, [], ◌∷◌, ◌++◌, codes, length, flat_map, if◌then◌else◌}
 use Rattle.std.specs.Fmt.{decimal}
 use Rattle.std.specs.List.{join_by}
+use Rattle.undo_base.specs.LineEnd.{crlf}
 use Rattle.undo_base.specs.declared.keys.Flags.{Flags}
 use Rattle.civil_dates.specs.Dates.{imap_date}
-
-abbrev pub crlf : List ℕ
-crlf = 13 ∷ 10 ∷ []
 
 -- an untagged answer (RFC 3501, 7)
 unfoldable pub line : List ℕ → List ℕ

@@ -1,6 +1,6 @@
 //! Dates as they are written (RFC 3501, section 9: date-time).
 //!
-//! A real date from the year 0 on is taken; the moment is kept from 0 to 253402300799.
+//! A real date from the year 0 on is taken; the moment is kept from 0 to `LAST_MOMENT`.
 ghost use Rattle.std.specs.Prelude.{◌≡◌, ◌≤◌, ◌<◌, length, negsuc, pos, ◌≤ℤ◌, IfSome};
 ghost use Rattle.imap_tokens.specs.Dates.{day_number, year_number, sign_in, ahead_of, is_punctuated, day_in, clock_in, zone_in, date_in};
 ghost use Rattle.imap_tokens.specs.Dates as spec;

@@ -3,15 +3,13 @@
 //! A number from 1 on (RFC 3501, section 9: nz-number), as in a set or of a part's octets, has no leading zero. One from 0 on
 //! (number: one or more digits), as the place of a part, LARGER and SMALLER, may begin with any number of zeros. Both are at most
 //! 4294967295.
-ghost use Rattle.std.specs.Prelude.{◌≡◌, true, min, option_map};
-ghost use Rattle.std.specs.Char.{is_ascii_digit};
+ghost use Rattle.std.specs.Prelude.{◌≡◌, option_map};
 ghost use Rattle.std.specs.List.{list_all};
-ghost use Rattle.undo_base.specs.Digits.{number_of};
 ghost use Rattle.imap_stream.specs.LiteralMarks.{is_atom_byte};
 ghost use Rattle.imap_tokens.specs.Words.{upper, is_word, after_word, is_atom, is_pattern_byte, number_in, count_in};
 
 use imap_stream::is_atom_char;
-use undo_base::are_digits;
+use undo_base::{are_digits, number_up_to};
 
 /// The greatest number that a command may spell.
 const MOST_NUMBER: u64 = 4294967295;
@@ -91,18 +89,6 @@ pub fn read_number(bytes: &[u8]) -> Option<u32>
     undo_base::read_number(1, MOST_NUMBER, bytes).map(|number| number as u32)
 }
 
-/// What digits stand for, up to one more than a command may spell.
-fn count_up_to(digits: &[u8]) -> u64
-    requires { list_all is_ascii_digit digits.now ≡ true }
-    ensures { result ≡ min (number_of digits.now) 4294967296 }
-{
-    let mut number = 0;
-    for digit in digits {
-        number = (10 * number + u64::from(*digit - b'0')).min(MOST_NUMBER + 1);
-    }
-    number
-}
-
 /// A number from 0 to 4294967295, in one or more digits, of which the first may be zeros (RFC 3501, section 9: number).
 pub fn read_count(bytes: &[u8]) -> Option<u32>
     ensures { result ≡ count_in bytes.now }
@@ -110,7 +96,7 @@ pub fn read_count(bytes: &[u8]) -> Option<u32>
     if bytes.is_empty() || !are_digits(bytes) {
         return None;
     }
-    let value = count_up_to(bytes);
+    let value = number_up_to(MOST_NUMBER + 1, bytes);
     if value > MOST_NUMBER {
         return None;
     }

@@ -2,6 +2,7 @@
 use Rattle.std.specs.Prelude.{ℕ, ◌+◌, ◌<◌, ◌≤◌, Bool, true, not, ◌&&◌, ◌==◌, nat_lt, List, [], ◌∷◌, ◌++◌, codes, decimal, map, filter, find, get_or, length, count_by, position, Option, option_map, if◌then◌else◌}
 use Rattle.std.specs.List.{list_any, enumerate_from}
 use Rattle.std.specs.Cmp.Lexicographic.{pointwise}
+use Rattle.undo_base.specs.LineEnd.{crlf}
 use Rattle.imap_text.specs.declared.facts.BoxFacts.{BoxFacts}
 use Rattle.imap_text.specs.Answers.{expunge_lines}
 use Rattle.verb_core.specs.declared.mailbox.Entry.{Entry}
@@ -61,7 +62,7 @@ is_current entries view = pointwise is_message view entries
 
 -- how many messages there are (RFC 3501, 7.3.1)
 abbrev pub exists_text : ℕ → List ℕ
-exists_text count = (codes "* " ++ decimal count ++ codes " EXISTS") ++ 13 ∷ 10 ∷ []
+exists_text count = (codes "* " ++ decimal count ++ codes " EXISTS") ++ crlf
 
 -- what a view is told of its mailbox: messages that went, and then how many there are where some came (RFC 3501, 7.4.1 and 7.3.1)
 abbrev pub news : List Entry → List Known → List ℕ

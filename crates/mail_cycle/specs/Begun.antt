@@ -1,6 +1,7 @@
 -- What holds of a store in use, and of what is kept of it.
 use Rattle.std.specs.Prelude.{◌≡◌, ℕ, ◌≤◌, map, IsTrue}
 use Rattle.std.specs.List.{AllByRecursion}
+use Rattle.undo_base.specs.declared.limits.TheConstants.{END_OF_NUMBERS}
 use Rattle.verb_core.specs.declared.mailbox.BoxId.{BoxId}
 use Rattle.verb_core.specs.declared.mailbox.Mailbox.{Mailbox}
 use Rattle.verb_core.specs.Items.{IsWellFormed}
@@ -13,4 +14,4 @@ pub record IsBegun (s : Kept) : Type 0 where
   pub house : IsTrue (is_house s.house)
   pub formed : AllByRecursion (IsWellFormed s.house) s.timeline
   pub stamps : map (λ (r : BoxId × ℕ). r.0) s.stamps ≡ map (λ (r : BoxId × Mailbox). r.0) s.store.boxes
-  pub next : s.next ≤ 4194304
+  pub next : s.next ≤ END_OF_NUMBERS

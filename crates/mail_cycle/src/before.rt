@@ -17,7 +17,7 @@ use std::alloc::Global;
 use std::marker::Model;
 use store_kept::Base;
 use stored_items::StoredItem;
-use undo_base::{LAST_NUMBER, Name, NoMemory};
+use undo_base::{END_OF_NUMBERS, LAST_NUMBER, Name, NoMemory};
 use verb_bytes::CycleAsk;
 use verb_core::{House, Stamps};
 
@@ -62,7 +62,7 @@ impl<'a> Before<'a> {
         requires valid { IsValid store.now.store }
         requires formed { AllByRecursion (IsWellFormed base.now.house) timeline.now }
         requires named { map (λ (r : TheBoxId × ℕ). r.0) stamps.now ≡ map (λ (r : TheBoxId × TheMailbox). r.0) store.now.store.boxes }
-        requires next { next ≤ 4194304 }
+        requires next { next ≤ END_OF_NUMBERS }
         ensures { result ≡ kept_from base.now store.now.store timeline.now stamps.now next reports.now no_marks false None }
     {
         Before {
@@ -91,7 +91,7 @@ impl<'a> Before<'a> {
 
     pub(crate) fn next(&self) -> u32
         ensures next { result ≡ self.now.next }
-        ensures fits { result ≤ 4194304 }
+        ensures fits { result ≤ END_OF_NUMBERS }
     {
         self.next
     }

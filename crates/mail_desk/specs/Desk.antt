@@ -1,6 +1,7 @@
 -- The desk: a store and the items in force, and each item that is performed is one of them from then on.
 use Rattle.std.specs.Prelude.{◌≡◌, ℕ, ◌<◌, ◌≤◌, [], map, Option, Result, Ok, Err, IsTrue}
 use Rattle.std.specs.List.{AllByRecursion, list_all}
+use Rattle.undo_base.specs.declared.limits.TheConstants.{END_OF_NUMBERS}
 use Rattle.undo_base.specs.declared.keys.User.{User}
 use Rattle.verb_core.specs.declared.ask.Ask.{Ask}
 use Rattle.verb_core.specs.declared.ask.Refused.{Refused}
@@ -25,7 +26,7 @@ pub record IsDesk (kept : Kept) : Type 0 where
   pub base : HasBase kept
   pub house_is : kept.store.house ≡ kept.house
   pub valid : IsValid kept.store
-  pub next : kept.next ≤ 4194304
+  pub next : kept.next ≤ END_OF_NUMBERS
   pub since : kept.marks.since ≤ kept.next
   pub stamps : map (λ (r : BoxId × ℕ). r.0) kept.stamps ≡ map (λ (r : BoxId × Mailbox). r.0) kept.store.boxes
   pub fresh : AllByRecursion (λ (r : BoxId × ℕ). r.1 < kept.next) kept.stamps

@@ -1,5 +1,6 @@
 -- An item that can be entered with no memory taken.
 use Rattle.std.specs.Prelude.{◌≡◌, ◌<◌, length}
+use Rattle.undo_base.specs.declared.limits.TheConstants.{END_OF_NUMBERS}
 use Rattle.verb_core.specs.Items.{IsWellFormed}
 use Rattle.verb_core.specs.Step.{step}
 use Rattle.verb_core.specs.Stamps.{stamps_after}
@@ -16,7 +17,7 @@ pub record CanEnter (ready : Ready) (held : Held) : Type 0 where
   pub formed : IsWellFormed held.kept.house ready.item
   pub stored : ready.stored ≡ ready.item
   pub number : ready.item.number ≡ held.kept.next
-  pub left : held.kept.next < 4194304
+  pub left : held.kept.next < END_OF_NUMBERS
   pub does : applied ready.effect (store_of held.kept) ≡ (step (store_of held.kept) ready.item).0
   pub shows : ready.effect.shown ≡ (step (store_of held.kept) ready.item).1
   pub spare : HasSpare ready.stamps (length held.kept.stamps)

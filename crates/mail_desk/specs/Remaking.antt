@@ -1,6 +1,7 @@
 -- The outcome of a repair, put in place.
 use Rattle.std.specs.Prelude.{◌≡◌, ℕ, ◌+◌, ◌-◌, ◌<◌, ◌≤◌, ◌++◌, List, [], length, map, take, drop, Option, Some, None, if◌then◌else◌, vec_len, vec_capacity, IsTrue}
 use Rattle.std.specs.List.{AllByRecursion}
+use Rattle.undo_base.specs.declared.limits.TheConstants.{END_OF_NUMBERS}
 use Rattle.verb_core.specs.declared.item.Item.{Item}
 use Rattle.verb_core.specs.declared.mailbox.Body.{Body}
 use Rattle.verb_core.specs.declared.mailbox.BoxId.{BoxId}
@@ -64,7 +65,7 @@ pub record FitsIn (kept : Kept) (left : Left) : Type 0 where
   pub named : map (λ (r : BoxId × ℕ). r.0) left.stamps ≡ map (λ (r : BoxId × Mailbox). r.0) left.store.store.boxes
   pub fresh : AllByRecursion (λ (r : BoxId × ℕ). r.1 < left.next) left.stamps
   pub rises : kept.next + left.entered < left.next
-  pub next : left.next ≤ 4194304
+  pub next : left.next ≤ END_OF_NUMBERS
   pub base : StandsOn (origin_of kept) (timeline_left kept.timeline left)
 
 -- what it leaves to be withdrawn can come back

@@ -29,7 +29,7 @@ use shelf::Shelf;
 use std::alloc::Global;
 use std::marker::Model;
 use store_kept::{Base, report_of};
-use undo_base::{Name, NoMemory, User};
+use undo_base::{END_OF_NUMBERS, Name, NoMemory, User};
 use verb_core::laws::stamps_name_mailboxes;
 use verb_core::{BoxId, Conf, House, Mailbox, Stamps};
 use withdraw::UndoneBehind;
@@ -314,7 +314,7 @@ impl Desk {
         ensures below { AllByRecursion (λ (i : TheItem). i.number < self.now.kept.next) self.now.kept.timeline }
         ensures named { map (λ (r : TheBoxId × ℕ). r.0) self.now.kept.stamps ≡ map (λ (r : TheBoxId × TheMailbox). r.0) (store_of self.now.kept).boxes }
         ensures fresh { AllByRecursion (λ (r : TheBoxId × ℕ). r.1 < self.now.kept.next) self.now.kept.stamps }
-        ensures next { self.now.kept.next ≤ 4194304 }
+        ensures next { self.now.kept.next ≤ END_OF_NUMBERS }
         ensures reports { IsTrue (is_by_key self.now.kept.reports) }
         ensures texts { IsTrue (all_bodies (has_text_kept self.now.kept) (store_of self.now.kept).boxes) }
         ensures sizes { SizesOf self.now.notes self.now.kept.texts (items_asked self.now.kept) }

@@ -35,7 +35,7 @@ use std::sync::ledger::{Blank, Ledger};
 use store_kept::laws::what_can_come_back_stays;
 use stored_items::StoredItem;
 use stored_items::laws::{stored_items_are_formed, stored_items_do_alike, texts_are_not_looked_at};
-use undo_base::{NoMemory, PastText, User};
+use undo_base::{END_OF_NUMBERS, NoMemory, PastText, User};
 use verb_core::laws::{mail_is_kept, stamps_name_mailboxes, steps_keep_validity};
 use verb_core::{Ask, Item, Refused, Shown, Stamps};
 
@@ -463,7 +463,7 @@ impl Desk {
         ensures item { IfOk result (λ item. live (store_of self.now.kept) self.now.kept.next at by ask self.now.kept.deep ≡ Ok item) }
         ensures formed { IfOk result (λ item. IsWellFormed self.now.kept.house item) }
         ensures number { IfOk result (λ item. item.number ≡ self.now.kept.next) }
-        ensures left { OnOk result (self.now.kept.next < 4194304) }
+        ensures left { OnOk result (self.now.kept.next < END_OF_NUMBERS) }
         ensures refused { IfErr result (λ refused. IsRefusal refused (live (store_of self.now.kept) self.now.kept.next at by ask self.now.kept.deep)) }
     {
         self.store.live(alloc, self.next, at, by, ask, self.deep)
@@ -497,7 +497,7 @@ impl Desk {
     pub fn ready_item(&mut self, alloc: Global, item: Item) -> Result<Ready, NoMemory>
         requires formed { IsWellFormed self.old.kept.house item }
         requires number { item.number ≡ self.old.kept.next }
-        requires left { self.old.kept.next < 4194304 }
+        requires left { self.old.kept.next < END_OF_NUMBERS }
         ensures kept { self.new.kept ≡ self.old.kept }
         ensures notes { self.new.notes ≡ self.old.notes }
         ensures marks { self.new.marks ≡ self.old.marks }
@@ -560,7 +560,7 @@ impl Desk {
     fn ready_lying(&mut self, alloc: Global, item: Item, text: PastText) -> Result<Lying, NoMemory>
         requires formed { IsWellFormed self.old.kept.house (whole item text) }
         requires number { item.number ≡ self.old.kept.next }
-        requires left { self.old.kept.next < 4194304 }
+        requires left { self.old.kept.next < END_OF_NUMBERS }
         requires notice { is_notice item.deed ≡ false }
         requires unlooked { looks_at_text (store_of self.old.kept) item.deed ≡ false }
         ensures kept { self.new.kept ≡ self.old.kept }
@@ -616,7 +616,7 @@ impl Desk {
     ) -> Result<(), NoMemory>
         requires formed { IsWellFormed self.old.kept.house (whole item text) }
         requires number { item.number ≡ self.old.kept.next }
-        requires left { self.old.kept.next < 4194304 }
+        requires left { self.old.kept.next < END_OF_NUMBERS }
         requires notice { is_notice item.deed ≡ false }
         requires unlooked { looks_at_text (store_of self.old.kept) item.deed ≡ false }
         ensures kept { OnOk result (self.new.kept ≡ performed self.old.kept (whole item text)) }

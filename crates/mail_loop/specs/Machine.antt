@@ -3,6 +3,7 @@ use Rattle.std.specs.Prelude.{ℕ, ◌==◌, ◌&&◌, filter_map, Bool, true, f
 use Rattle.std.specs.Ordering.{nat_cmp}
 use Rattle.std.specs.Map.{lookup, set_value}
 use Rattle.std.specs.BTreeMap.{insert_entry, is_at}
+use Rattle.undo_base.specs.declared.limits.TheConstants.{LAST_MOMENT}
 use Rattle.verb_core.specs.Names.{is_empty}
 use Rattle.undo_outside.specs.declared.event.Event.{Event}
 use Rattle.undo_outside.specs.declared.event.What.{What}
@@ -170,7 +171,7 @@ answers End no_memory hs stage at s conn = ignored s
 
 -- what an event leaves before its strings are sent; a moment past the year 9999 is taken as its last
 abbrev pub answered : Bool → List Hindrance → Stage → State → Event → Answered
-answered no_memory hs stage s event = answers event.what no_memory hs stage (min event.at 253402300799) s event.conn
+answered no_memory hs stage s event = answers event.what no_memory hs stage (min event.at LAST_MOMENT) s event.conn
 
 -- what the link does with a string: nothing where there is nothing to say
 abbrev pub string_notes : Delivery → ℕ → List ℕ → List LinkNote

@@ -23,6 +23,7 @@ use std::alloc::Global;
 use std::thread::Threads;
 use time_desk::Desk;
 use time_desk::laws::seals_join;
+use undo_base::LAST_MOMENT;
 use undo_outside::{Disk, Gate};
 
 /// What follows a console's answer: whether its connection is closed, whether serving is asked to stop, and what follows for the
@@ -82,7 +83,7 @@ pub fn hear_console<R: Threads + Sync, D: Disk + Drop, G: Gate>(
     gate: &G,
     bytes: &[u8],
 ) -> Turned
-    requires moment { at ≤ 253402300799 }
+    requires moment { at ≤ LAST_MOMENT }
     requires sealed { desk.old.closed ≡ false }
     ensures house { desk.new.kept.house ≡ desk.old.kept.house }
     ensures heard { (seats : Seats) → (no_memory : Bool) × (hs : List Hindrance) × (stage : Stage) × (failed : List JournalRecord) × (counts : TurnCounts) ×

@@ -43,7 +43,7 @@ use std::marker::Model;
 use std::thread::Threads;
 use time_desk::Desk;
 use time_desk::laws::seals_join;
-use undo_base::{NoMemory, User, Users};
+use undo_base::{LAST_MOMENT, NoMemory, User, Users};
 use undo_outside::{Disk, Gate, Role};
 use verb_core::BoxId;
 
@@ -203,7 +203,7 @@ fn serve_lines<D: Disk + Drop>(
     conn: u32,
     at: u64,
 ) -> Reply
-    requires moment { at ≤ 253402300799 }
+    requires moment { at ≤ LAST_MOMENT }
     requires sealed { desk.old.closed ≡ false }
     requires free { smtp.is_free dialog.old ≡ true }
     ensures free { smtp.is_free dialog.new ≡ true }
@@ -239,7 +239,7 @@ fn hear_smtp<D: Disk + Drop>(
     at: u64,
     bytes: &[u8],
 ) -> Turned
-    requires moment { at ≤ 253402300799 }
+    requires moment { at ≤ LAST_MOMENT }
     requires sealed { desk.old.closed ≡ false }
     requires free { smtp.is_free dialog.old ≡ true }
     ensures free { smtp.is_free dialog.new ≡ true }
@@ -272,7 +272,7 @@ fn serve_commands<D: Disk + Drop>(
     conn: u32,
     at: u64,
 ) -> Reply
-    requires moment { at ≤ 253402300799 }
+    requires moment { at ≤ LAST_MOMENT }
     requires sealed { desk.old.closed ≡ false }
     requires free { is_free dialog.old ≡ true }
     requires home { is_at_home desk.old.kept.house dialog.old ≡ true }
@@ -313,7 +313,7 @@ fn hear_imap<D: Disk + Drop>(
     at: u64,
     bytes: &[u8],
 ) -> Turned
-    requires moment { at ≤ 253402300799 }
+    requires moment { at ≤ LAST_MOMENT }
     requires sealed { desk.old.closed ≡ false }
     requires free { is_free dialog.old ≡ true }
     requires home { is_at_home desk.old.kept.house dialog.old ≡ true }
@@ -344,7 +344,7 @@ pub fn hear<R: Threads + Sync, D: Disk + Drop, G: Gate>(
     in_use: &Result<Users, NoMemory>,
     bytes: &[u8],
 ) -> Turned
-    requires moment { occasion.at ≤ 253402300799 }
+    requires moment { occasion.at ≤ LAST_MOMENT }
     requires sealed { desk.old.closed ≡ false }
     requires home { IsHome desk.old.kept.house connection.old }
     ensures home { IsHome desk.new.kept.house connection.new }

@@ -258,7 +258,7 @@ fn hear_at<R: Threads + Sync, D: Disk + Drop, G: Gate>(
     gate: &G,
     bytes: &[u8],
 ) -> Result<Answer, NoMemory>
-    requires moment { at ≤ 253402300799 }
+    requires moment { at ≤ LAST_MOMENT }
     requires sealed { desk.old.closed ≡ false }
     requires home { AreHome desk.old.kept.house connections.old.entries }
     ensures home { AreHome desk.new.kept.house connections.new.entries }

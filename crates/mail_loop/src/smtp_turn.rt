@@ -20,7 +20,7 @@ use smtp_session::{SmtpSession, memory_text};
 use std::alloc::Global;
 use time_desk::Desk;
 use time_desk::laws::seals_join;
-use undo_base::NoMemory;
+use undo_base::{LAST_MOMENT, NoMemory};
 use undo_outside::Disk;
 
 /// No memory was found for a line. In a text nothing can be said of it.
@@ -47,7 +47,7 @@ pub fn take_line<D: Disk + Drop>(
     line: &SmtpLine,
     reply: &mut Reply,
 )
-    requires moment { at ≤ 253402300799 }
+    requires moment { at ≤ LAST_MOMENT }
     requires free { is_free session.old ≡ true }
     requires stays { reply.old.closes ≡ false }
     requires sealed { desk.old.closed ≡ false }

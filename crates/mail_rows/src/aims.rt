@@ -9,11 +9,12 @@ ghost use Rattle.verb_core.specs.Recipients.{recipients as names_recipients};
 ghost use Rattle.verb_core.specs.Aims.{Sought, aim_at as makes_aim, into_or, and_postmaster, delivered, sought};
 ghost use Rattle.mail_rows.specs.Reaching.{sought_at, act_sought, with_copy};
 
-use crate::opening::{inbox_name, lost_found_name};
 use crate::reach::{Reach, aim_at, first_met, meanings, means_nobody, reach_each, recipients};
 use std::alloc::Global;
 use undo_base::{Name, Names, NoMemory, Text, User};
-use verb_core::{Act, Aims, BoxId, Conf, Deed, House, Item, Mailbox, who_acts};
+use verb_core::{
+    Act, Aims, BoxId, Conf, Deed, House, Item, Mailbox, inbox_name, lost_found_name, who_acts,
+};
 
 /// No aims.
 fn reach_nothing(alloc: Global) -> Reach
@@ -128,11 +129,7 @@ fn reach_act(alloc: Global, rows: &[(BoxId, Mailbox)], act: &Act) -> Result<Reac
 {
     match act {
         Act::Give { user, mailbox, .. } => reach_one(alloc, rows, mailbox, *user),
-        Act::SetAlias { .. } => Ok(reach_nothing(alloc)),
-        Act::DropAlias { .. } => Ok(reach_nothing(alloc)),
-        Act::SetFilter(_) => Ok(reach_nothing(alloc)),
-        Act::DropFilter { .. } => Ok(reach_nothing(alloc)),
-        Act::Remove { .. } => Ok(reach_nothing(alloc)),
+        _ => Ok(reach_nothing(alloc)),
     }
 }
 

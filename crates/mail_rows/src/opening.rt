@@ -1,6 +1,5 @@
 //! The rows of the first store.
 ghost use Rattle.std.specs.Prelude.{◌≡◌, ◌++◌, IsTrue, IfOk, OnOk, flat_map, length};
-ghost use Rattle.verb_core.specs.Names.{inbox, lost_found};
 ghost use Rattle.verb_core.specs.Mailboxes.{no_mail};
 ghost use Rattle.verb_core.specs.Boxes.{box_of};
 ghost use Rattle.verb_core.specs.Store.{is_house, users_of};
@@ -8,27 +7,7 @@ ghost use Rattle.mail_rows.specs.Fixed.{fixed_of};
 
 use std::alloc::Global;
 use undo_base::{Name, NoMemory, User};
-use verb_core::{BoxId, Entries, House, Mailbox};
-
-/// The name of the mailbox that each user has for what comes in.
-pub(crate) fn inbox_name(alloc: Global) -> Result<Name, NoMemory>
-    ensures { IfOk result (λ name. name ≡ inbox) }
-{
-    match Name::read(alloc, b"INBOX") {
-        Ok(name) => Ok(name),
-        Err(_) => Err(NoMemory),
-    }
-}
-
-/// The name of the mailbox that each user has for what finds no other.
-pub(crate) fn lost_found_name(alloc: Global) -> Result<Name, NoMemory>
-    ensures { IfOk result (λ name. name ≡ lost_found) }
-{
-    match Name::read(alloc, b"Lost+Found") {
-        Ok(name) => Ok(name),
-        Err(_) => Err(NoMemory),
-    }
-}
+use verb_core::{BoxId, Entries, House, Mailbox, inbox_name, lost_found_name};
 
 fn empty_row(alloc: Global, user: User, name: Name) -> (BoxId, Mailbox)
     ensures { result ≡ (box_of user name, no_mail) }

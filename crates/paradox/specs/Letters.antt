@@ -1,7 +1,8 @@
 -- The notice to a user after a cycle, and whom a cycle sends one.
-use Rattle.std.specs.Prelude.{ℕ, Bool, List, [], ◌∷◌, ◌++◌, codes, map, filter, get_or, slice_get, Option, Some, None, option_map, unwrap_or}
+use Rattle.std.specs.Prelude.{ℕ, Bool, List, [], ◌++◌, codes, map, filter, get_or, slice_get, Option, Some, None, option_map, unwrap_or}
 use Rattle.std.specs.Fmt.{decimal}
 use Rattle.std.specs.List.{list_any, flat_map}
+use Rattle.undo_base.specs.LineEnd.{crlf}
 use Rattle.undo_base.specs.declared.keys.User.{User}
 use Rattle.verb_core.specs.declared.conf.Account.{Account}
 use Rattle.verb_core.specs.declared.conf.House.{House}
@@ -13,7 +14,7 @@ use Rattle.paradox.specs.declared.reports.BrokenItem.{BrokenItem}
 
 -- a line and its end (RFC 5322, 2.1)
 abbrev pub line : List ℕ → List ℕ
-line text = text ++ 13 ∷ 10 ∷ []
+line text = text ++ crlf
 
 -- a user's name: no bytes where the house has no such user
 abbrev pub user_name : House → User → List ℕ

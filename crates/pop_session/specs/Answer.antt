@@ -1,5 +1,6 @@
 -- What a client is told (RFC 1939, 3): one line that begins with `+OK` or `-ERR`.
-use Rattle.std.specs.Prelude.{ℕ, List, [], ◌∷◌, ◌++◌, codes, decimal}
+use Rattle.std.specs.Prelude.{ℕ, List, ◌∷◌, ◌++◌, codes, decimal}
+use Rattle.undo_base.specs.LineEnd.{crlf}
 use Rattle.seal_log.specs.declared.fault.ReadFault.{ReadFault}
 use Rattle.seal_log.specs.declared.fault.ReadFault.TheVariants as read_fault
 use Rattle.verb_core.specs.declared.ask.Refused.{Refused}
@@ -11,7 +12,7 @@ use Rattle.pop_session.specs.declared.command.LineRefused.TheVariants as line
 
 -- a line with its CRLF
 abbrev pub said : List ℕ → List ℕ
-said text = text ++ 13 ∷ 10 ∷ []
+said text = text ++ crlf
 
 -- two numbers with a byte between them
 abbrev pub pair_text : ℕ → ℕ → ℕ → List ℕ

@@ -1,5 +1,6 @@
 -- A text as it is sent (RFC 1939, 3: multi-line responses).
 use Rattle.std.specs.Prelude.{ℕ, ◌-◌, Bool, ◌==◌, List, [], ◌∷◌, ◌++◌, codes, bytes_eq, drop, flat_map, length, take, Option, None, Some, if◌then◌else◌}
+use Rattle.undo_base.specs.LineEnd.{crlf}
 use Rattle.header_fields.specs.Header.{behind_header, header_of}
 use Rattle.header_fields.specs.Lines.{joined, lines_of}
 use Rattle.pop_session.specs.declared.answer.Answer.TheVariants.{Done, Octets}
@@ -11,11 +12,11 @@ dotted [] = []
 dotted (b ∷ line) = if b == 46 then 46 ∷ b ∷ line else b ∷ line
 
 abbrev pub ends_in_line_end : List ℕ → Bool
-ends_in_line_end text = bytes_eq (drop (length text - 2) text) (13 ∷ 10 ∷ [])
+ends_in_line_end text = bytes_eq (drop (length text - 2) text) crlf
 
 -- CRLF, where the text does not end in one
 abbrev pub line_end : List ℕ → List ℕ
-line_end text = if ends_in_line_end text then [] else 13 ∷ 10 ∷ []
+line_end text = if ends_in_line_end text then [] else crlf
 
 -- the lines of a text
 abbrev pub sent : List ℕ → List ℕ

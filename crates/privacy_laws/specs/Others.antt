@@ -1,5 +1,6 @@
 -- What other users do.
 use Rattle.std.specs.Prelude.{◌≡◌, ◌⊎◌, ◌<◌, Bool, true, false, filter, List, [], ◌∷◌}
+use Rattle.undo_base.specs.declared.limits.TheConstants.{END_OF_NUMBERS}
 use Rattle.undo_base.specs.declared.keys.User.{User}
 use Rattle.verb_core.specs.declared.conf.House.{House}
 use Rattle.verb_core.specs.declared.item.Aim.{Aim}
@@ -22,7 +23,7 @@ Spares u s i = (id : BoxId) → same_user u id.user ≡ true → touches_box (so
 pub record CanFollow (house : House) (kept : Kept) (i : Item) : Type 0 where
   pub formed : IsWellFormed house i
   pub number : i.number ≡ kept.next
-  pub left : kept.next < 4194304
+  pub left : kept.next < END_OF_NUMBERS
 
 -- the user's own item, the same in both
 abbrev pub IsOwnItem : User → Item → Item → Type 0

@@ -1,6 +1,7 @@
 -- What others do in steps: the items that they perform, one behind the other.
 use Rattle.std.specs.Prelude.{◌≡◌, ◌⊎◌, ℕ, Bool, true, false, IsTrue, List, [], ◌∷◌, ◌++◌, length, drop, min, Option, None, Some}
 use Rattle.std.specs.List.{AllByRecursion}
+use Rattle.undo_base.specs.declared.limits.TheConstants.{LAST_MOMENT}
 use Rattle.undo_base.specs.declared.keys.User.{User}
 use Rattle.undo_outside.specs.declared.event.What.{What}
 use Rattle.undo_outside.specs.declared.event.What.TheVariants.{Joined, Bytes, Left, Idle, End}
@@ -35,7 +36,7 @@ LeavesMail house kept new = (new ≡ kept) ⊎ (new ≡ snapshotted kept) ⊎ ((
 
 -- what is heard of a console's bytes in a step
 abbrev pub console_in : Step → State → List ℕ → Heard
-console_in step s bytes = hears_console step.hindrances.turns step.hindrances.stage (min step.event.at 253402300799) s bytes
+console_in step s bytes = hears_console step.hindrances.turns step.hindrances.stage (min step.event.at LAST_MOMENT) s bytes
 
 -- bytes on a connection are of others: an SMTP client's, another user's, or a console's that leave the mail and close no connection
 abbrev pub AreOfOthers : House → User → Step → State → Seat → List ℕ → Type 0

@@ -8,13 +8,14 @@ use Rattle.undo_outside.specs.declared.event.What.TheVariants.{Joined, Bytes, Le
 use Rattle.undo_outside.specs.Roles.{role_with}
 use Rattle.script_link.specs.declared.line.ScriptLine.{ScriptLine}
 use Rattle.script_link.specs.declared.line.ScriptLine.TheVariants.{Skipped, Moment, Happens, Bad}
+use Rattle.undo_base.specs.LineEnd.{crlf}
 use Rattle.undo_base.specs.Digits.{number_between}
 use Rattle.script_link.specs.Numbers.{moment_of, conn_of}
 use Rattle.script_link.specs.Texts.{unspelled}
 
 -- a text and CRLF
 abbrev pub said : List ℕ → List ℕ
-said text = text ++ 13 ∷ 10 ∷ []
+said text = text ++ crlf
 
 abbrev pub event_of : ℕ → ℕ → What → Event
 event_of conn at what = record { conn = conn; at = at; what = what }

@@ -1,6 +1,7 @@
 -- Transcripts of what was sent over a link.
 use Rattle.std.specs.Prelude.{ℕ, ◌-◌, List, [], ◌∷◌, ◌++◌, length, take, nat_eq, codes, decimal, if◌then◌else◌}
 use Rattle.std.specs.List.{flat_map, ends_with}
+use Rattle.undo_base.specs.LineEnd.{crlf}
 use Rattle.undo_outside.specs.declared.event.LinkNote.{LinkNote}
 use Rattle.undo_outside.specs.declared.event.LinkNote.TheVariants.{Came, Sent, Missed, Closed}
 use Rattle.script_link.specs.Pieces.{pieces_of}
@@ -8,9 +9,6 @@ use Rattle.script_link.specs.Texts.{spelled}
 
 abbrev pub lf : List ℕ
 lf = 10 ∷ []
-
-abbrev pub crlf : List ℕ
-crlf = 13 ∷ 10 ∷ []
 
 -- a piece that ends in CRLF, without it, or any other piece, as bytes are written
 abbrev pub piece_text : ℕ → List ℕ → List ℕ

@@ -3,7 +3,8 @@ ghost use Rattle.std.specs.Prelude.{◌≡◌, ◌++◌, ◌-◌, IfOk, OnOk, Is
 ghost use Rattle.std.specs.List.{flat_map, ends_with};
 ghost use Rattle.script_link.specs.Pieces.{pieces_of};
 ghost use Rattle.script_link.specs.Texts.{spelled};
-ghost use Rattle.script_link.specs.Transcript.{lf, crlf, piece_text, note_text, transcript_of};
+ghost use Rattle.undo_base.specs.LineEnd.{crlf};
+ghost use Rattle.script_link.specs.Transcript.{lf, piece_text, note_text, transcript_of};
 
 use crate::pieces::first_piece;
 use crate::texts::write_bytes;

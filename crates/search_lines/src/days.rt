@@ -5,9 +5,10 @@ ghost use Rattle.std.specs.Prelude.{◌≡◌, ◌≤◌, ◌<◌, IfSome};
 ghost use Rattle.search_lines.specs.Days as spec;
 
 use civil_dates::{Day, month_of};
-use imap_stream::{are_few_digits, number};
+use imap_stream::are_few_digits;
 use imap_tokens::find_byte;
 use jiff_core::civil::Date;
+use undo_base::number_in;
 
 /// A day of the month, of one digit or two.
 fn read_day_number(bytes: &[u8]) -> Option<u8>
@@ -16,7 +17,7 @@ fn read_day_number(bytes: &[u8]) -> Option<u8>
     if !are_few_digits(bytes) || bytes.len() > 2 {
         return None;
     }
-    let value = number(bytes);
+    let value = number_in(bytes);
     if value > 31 {
         return None;
     }
@@ -31,7 +32,7 @@ fn read_year(bytes: &[u8]) -> Option<u16>
     if !are_few_digits(bytes) || bytes.len() != 4 {
         return None;
     }
-    let value = number(bytes);
+    let value = number_in(bytes);
     if value > 9999 {
         return None;
     }

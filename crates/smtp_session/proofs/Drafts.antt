@@ -6,7 +6,8 @@ use Rattle.std.proofs.lemmas.Bool.Decides.{nat_tests}
 use Rattle.std.specs.Prelude.{Option, None, Some, nat_lt, take, if◌then◌else◌}
 use Rattle.smtp_lines.specs.Line.{kept_of}
 use Rattle.smtp_lines.specs.Stuffing.{unstuffed}
-use Rattle.smtp_session.specs.Bytes.{crlf, said}
+use Rattle.undo_base.specs.LineEnd.{crlf}
+use Rattle.smtp_session.specs.Bytes.{said}
 use Rattle.smtp_session.specs.Text.{add_line, add_whole, fits, text_after, text_of}
 
 -- a text that is too large is none

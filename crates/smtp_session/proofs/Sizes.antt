@@ -9,7 +9,8 @@ use Rattle.civil_dates.specs.declared.days.Day.{Day}
 use Rattle.civil_dates.specs.Days.{civil_day, day_from_month, day_from_year}
 use Rattle.civil_dates.specs.Months.{month_name, month_names}
 use Rattle.civil_dates.specs.Dates.{clock_text, mail_date, mail_date_of}
-use Rattle.smtp_session.specs.Bytes.{crlf, said}
+use Rattle.undo_base.specs.LineEnd.{crlf}
+use Rattle.smtp_session.specs.Bytes.{said}
 use Rattle.smtp_session.specs.Body.{body_of, received, return_path}
 use Rattle.smtp_session.proofs.Readings.{and_left_true, and_right_true}
 

@@ -5,7 +5,7 @@ use smtp_lines::SmtpLine;
 use smtp_session::{SmtpOut, SmtpSession};
 use std::alloc::Global;
 use std::test::Fail;
-use undo_base::{Name, Names, Text, User};
+use undo_base::{END_OF_NUMBERS, Name, Names, Text, User};
 use verb_core::{
     Account, Accounts, Aliases, Conf, Deed, Filters, House, Item, Refused, Shown, SubmitFault,
 };
@@ -42,7 +42,9 @@ fn made(alloc: Global, outcome: Outcome) -> Result<Item, SubmitFault>
     match outcome {
         Outcome::Kept => Ok(delivered(alloc)),
         Outcome::UidWide => Err(SubmitFault::Refused(Refused::UidWide)),
-        Outcome::Numbers => Err(SubmitFault::Refused(Refused::Numbers { next: 4194304 })),
+        Outcome::Numbers => Err(SubmitFault::Refused(Refused::Numbers {
+            next: END_OF_NUMBERS,
+        })),
         Outcome::NoMemory => Err(SubmitFault::Refused(Refused::NoMemory)),
         Outcome::Disk => Err(SubmitFault::Disk),
         Outcome::Closed => Err(SubmitFault::Closed),

@@ -4,6 +4,7 @@ use Rattle.std.specs.Prelude.{ℕ, ◌==◌, nat_le, nat_lt, Bool, not, ◌&&◌
 use Rattle.std.specs.List.{list_all, list_any}
 use Rattle.std.specs.Ordering.{is_eq}
 use Rattle.std.specs.Cmp.Lexicographic.{slice_cmp}
+use Rattle.undo_base.specs.declared.limits.TheConstants.{END_OF_NUMBERS}
 use Rattle.undo_base.specs.declared.keys.User.{User}
 use Rattle.paradox.specs.declared.reports.BrokenItem.{BrokenItem}
 use Rattle.paradox.specs.declared.reports.Report.{Report}
@@ -83,7 +84,7 @@ are_reports house reports = is_by_key reports && list_all (λ (r : List ℕ × R
 -- can have, and its mailboxes make a store. No user has a key twice in them, and what it names is below its next number.
 abbrev pub base_stands : House → Based → Bool
 base_stands house b =
-    nat_le b.next 4194304 && makes_store house b.conf b.rows && once_each b.rows && list_all (is_entry_below b.next) (entries_of b.rows)
+    nat_le b.next END_OF_NUMBERS && makes_store house b.conf b.rows && once_each b.rows && list_all (is_entry_below b.next) (entries_of b.rows)
     && are_stamps house b.next b.stamps && are_reports house b.reports
 
 -- ---- a Text

@@ -28,7 +28,7 @@ use std::alloc::Global;
 use std::marker::Model;
 use store_digest::digest;
 use stored_items::StoredItem;
-use undo_base::{Name, NoMemory, Text, User};
+use undo_base::{END_OF_NUMBERS, Name, NoMemory, Text, User};
 use undo_outside::Disk;
 use verb_core::{Body, Conf, House, Items, Stamps};
 
@@ -175,7 +175,7 @@ impl<D: Disk> Desk<D> {
         ensures below { AllByRecursion (λ (i : TheItem). i.number < self.now.kept.next) self.now.kept.timeline }
         ensures named { map (λ (r : TheBoxId × ℕ). r.0) self.now.kept.stamps ≡ map (λ (r : TheBoxId × TheMailbox). r.0) (store_of self.now.kept).boxes }
         ensures fresh { AllByRecursion (λ (r : TheBoxId × ℕ). r.1 < self.now.kept.next) self.now.kept.stamps }
-        ensures next { self.now.kept.next ≤ 4194304 }
+        ensures next { self.now.kept.next ≤ END_OF_NUMBERS }
         ensures reports { IsTrue (is_by_key self.now.kept.reports) }
         ensures texts { IsTrue (all_bodies (has_text_kept self.now.kept) (store_of self.now.kept).boxes) }
         ensures undone { HasUndone self.now.kept }

@@ -11,16 +11,7 @@ ghost use Rattle.touch_rules.specs.Table.{tail_on, looked_for, written as writes
 use crate::{Touch, TouchSet};
 use std::alloc::Global;
 use undo_base::{Copies, Key, Keys, Name, NoMemory, Sequence, User};
-use verb_core::{Act, Aim, Deed, Resolved, actor_of, names_with_superiors};
-
-fn lost_found_name(alloc: Global) -> Result<Name, NoMemory>
-    ensures { IfOk result (λ name. name ≡ lost_found) }
-{
-    match Name::read(alloc, b"Lost+Found") {
-        Ok(name) => Ok(name),
-        Err(_) => Err(NoMemory),
-    }
-}
+use verb_core::{Act, Aim, Deed, Resolved, actor_of, lost_found_name, names_with_superiors};
 
 // ---- single touches
 
@@ -221,10 +212,7 @@ fn act_touches(alloc: Global, act: &Act, what: &Resolved) -> Result<TouchSet, No
     match act {
         Act::Remove { user, mailbox, key } => message(alloc, *user, mailbox, *key),
         Act::Give { .. } => arriving(alloc, what),
-        Act::SetAlias { .. } => Ok(Sequence::new(alloc)),
-        Act::DropAlias { .. } => Ok(Sequence::new(alloc)),
-        Act::SetFilter(_) => Ok(Sequence::new(alloc)),
-        Act::DropFilter { .. } => Ok(Sequence::new(alloc)),
+        _ => Ok(Sequence::new(alloc)),
     }
 }
 
