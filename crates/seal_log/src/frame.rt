@@ -15,7 +15,7 @@ pub fn closed_frame(alloc: Global, payload: &[u8]) -> Result<Vec<u8>, NoMemory>
     requires { length payload.now < 2 ^ 32 }
     ensures { IfOk result (λ bytes. bytes.items ≡ frame payload.now ++ 0 ∷ []) }
 {
-    let mut bytes = Vec::new(alloc);
+    let mut bytes = Vec::with_capacity(alloc, payload.len() + 5)?;
     push_closed_frame(&mut bytes, payload)?;
     Ok(bytes)
 }
@@ -25,7 +25,7 @@ pub fn first_frame(alloc: Global, payload: &[u8]) -> Result<Vec<u8>, NoMemory>
     requires { length payload.now < 2 ^ 32 }
     ensures { IfOk result (λ bytes. bytes.items ≡ 0 ∷ (frame payload.now ++ 0 ∷ [])) }
 {
-    let mut bytes = Vec::new(alloc);
+    let mut bytes = Vec::with_capacity(alloc, payload.len() + 6)?;
     bytes.push(CLOSED)?;
     push_closed_frame(&mut bytes, payload)?;
     Ok(bytes)

@@ -1,6 +1,8 @@
 -- Bytes at whose first places it was seen that no CRLF begins.
-use Rattle.std.proofs.Common.{◌≡◌, ◌⊎◌, ℕ, zero, suc, ◌+◌, ◌-◌, ◌<◌, ◌≤◌, get_or, Bool, true, false, cond, not, ◌&&◌, List, [], ◌∷◌, ◌++◌, length, take, drop, refl, ap, subst, sym, ◌∙◌, inl, inr, arith, add-one}
-use Rattle.std.proofs.lemmas.List.{drop-append-le, length-append}
+use Rattle.std.proofs.Common.{◌≡◌, ◌==◌, ◌⊎◌, ℕ, zero, suc, ◌+◌, ◌-◌, ◌<◌, ◌≤◌, get_or, Bool, true, false, cond, not, ◌&&◌, List, [], ◌∷◌, ◌++◌, length, take, drop, refl, ap, subst, sym, ◌∙◌, inl, inr, arith, add-one}
+use Rattle.std.proofs.lemmas.List.{drop-append-le, length-append, length-drop}
+use Rattle.std.specs.Prelude.{Option, None, Some}
+use Rattle.memchr.specs.Find.{Nowhere, Passes, IsFirstByte, is_byte}
 use Rattle.smtp_lines.specs.Lines.{is_end, onto_first, onto_rest, lines_of, tail_of}
 use Rattle.smtp_lines.specs.Passed.{passes}
 use Rattle.smtp_lines.proofs.Cut.{Passed, onto_line, onto_last, passed_none}
@@ -64,20 +66,54 @@ seen_passed (suc n) (b ∷ c ∷ s) seen =
     let is = step b c n s seen in
     passed_first b c s (take n (c ∷ s)) (drop n (c ∷ s)) is.apart (seen_passed n (c ∷ s) is.more)
 
--- one place more
-seen_next : (n : ℕ) (s : List ℕ) → passes n s ≡ true → 2 ≤ length (drop n s) → is_end (get_or (drop n s) 0 0) (get_or (drop n s) 1 0) ≡ false → passes (suc n) s ≡ true
-seen_next zero [] seen two apart = absurd (omega arith)
-seen_next zero (b ∷ []) seen two apart = absurd (omega arith)
-seen_next zero (b ∷ c ∷ s) seen two apart = step_back b c zero s apart refl
-seen_next (suc n) [] seen two apart = absurd (let w : false ≡ true = seen in cc)
-seen_next (suc n) (b ∷ []) seen two apart = absurd (let w : false ≡ true = seen in cc)
-seen_next (suc n) (b ∷ c ∷ s) seen two apart =
+-- more places behind those
+jump : (n k : ℕ) (s : List ℕ) → passes n s ≡ true → passes k (drop n s) ≡ true → passes (n + k) s ≡ true
+jump zero k s seen more = let e : k ≡ zero + k = omega arith in subst (λ m. passes m s ≡ true) e more
+jump (suc n) k [] seen more = absurd (let w : false ≡ true = seen in cc)
+jump (suc n) k (b ∷ []) seen more = absurd (let w : false ≡ true = seen in cc)
+jump (suc n) k (b ∷ c ∷ s) seen more =
     let is = step b c n s seen in
-    step_back b c (suc n) s is.apart (seen_next n (c ∷ s) is.more two apart)
+    let e : suc (n + k) ≡ suc n + k = omega arith in
+    subst (λ m. passes m (b ∷ c ∷ s) ≡ true) e (step_back b c (n + k) s is.apart (jump n k (c ∷ s) is.more more))
 
-pub seen_more : (n : ℕ) (s rest : List ℕ) → passes n s ≡ true → rest ≡ drop n s → 2 ≤ length rest → is_end (get_or rest 0 0) (get_or rest 1 0) ≡ false → passes (n + 1) s ≡ true
-seen_more n s rest seen e two apart =
-    rw add-one (seen_next n s seen (subst (λ r. 2 ≤ length r) e two) (subst (λ r. is_end (get_or r 0 0) (get_or r 1 0) ≡ false) e apart))
+pub seen_more : (n k : ℕ) (s rest : List ℕ) → passes n s ≡ true → rest ≡ drop n s → passes k rest ≡ true → passes (n + k) s ≡ true
+seen_more n k s rest seen e more = jump n k s seen (subst (λ r. passes k r ≡ true) e more)
+
+no_cr : (b c : ℕ) (t : Bool) → (b == 13) ≡ t → ((b == 13) ≡ true → ⊥) → is_end b c ≡ false
+no_cr b c true e not = absurd (not e)
+no_cr b c false e not = ap (λ (t : Bool). t && (c == 10)) e
+
+-- where no CR stands no CRLF begins
+free_of_cr : (n : ℕ) (s : List ℕ) → n < length s → ((k : ℕ) → k < n → (get_or s k 0 == 13) ≡ true → ⊥) → passes n s ≡ true
+free_of_cr zero s within free = refl
+free_of_cr (suc n) [] within free = absurd (omega arith)
+free_of_cr (suc n) (b ∷ []) within free = absurd (omega arith)
+free_of_cr (suc n) (b ∷ c ∷ s) within free =
+    step_back b c n s (no_cr b c (b == 13) refl (free 0 (omega arith))) (free_of_cr n (c ∷ s) (omega arith) (λ k lt. free (suc k) (omega arith)))
+
+-- none begins at the first place, and no CR stands at so many behind it
+to_cr : (k : ℕ) (s : List ℕ) → k + 1 < length s → is_end (get_or s 0 0) (get_or s 1 0) ≡ false → Nowhere (Passes (is_byte 13) (drop 1 s)) 0 k → passes (k + 1) s ≡ true
+to_cr k [] within apart none = absurd (omega arith)
+to_cr k (b ∷ []) within apart none = absurd (omega arith)
+to_cr k (b ∷ c ∷ s) within apart none =
+    rw add-one (step_back b c k s apart (free_of_cr k (c ∷ s) (omega arith) (λ j lt is. none j (omega arith) lt is)))
+
+-- the next CR stands there
+pub cr_next : (k : ℕ) (s t : List ℕ) (r : Option ℕ) → 2 ≤ length s → is_end (get_or s 0 0) (get_or s 1 0) ≡ false → t ≡ drop 1 s → IsFirstByte (is_byte 13) t r → r ≡ Some k
+    → (k + 1 < length s) × (passes (k + 1) s ≡ true)
+cr_next k s t r two apart is found e =
+    let at = subst (λ x. IsFirstByte (is_byte 13) (drop 1 s) x) e (subst (λ x. IsFirstByte (is_byte 13) x r) is found) in
+    let within : k + 1 < length s = omega (arith, at.0.high, length-drop 1 s) in
+    (within, to_cr k s within apart at.0.before)
+
+-- there is none
+pub cr_gone : (s t : List ℕ) (r : Option ℕ) → 2 ≤ length s → is_end (get_or s 0 0) (get_or s 1 0) ≡ false → t ≡ drop 1 s → IsFirstByte (is_byte 13) t r → r ≡ None
+    → passes (length s - 1) s ≡ true
+cr_gone s t r two apart is found e =
+    let none = subst (λ x. IsFirstByte (is_byte 13) (drop 1 s) x) e (subst (λ x. IsFirstByte (is_byte 13) x r) is found) in
+    let size : length s - 2 + 1 ≡ length s - 1 = omega arith in
+    let within : length s - 2 + 1 < length s = omega arith in
+    subst (λ n. passes n s ≡ true) size (to_cr (length s - 2) s within apart (λ j low lt. none j low (omega (arith, length-drop 1 s))))
 
 -- where less than two bytes are left, all places but the last are seen
 pub seen_all : (n : ℕ) (s rest : List ℕ) → passes n s ≡ true → n + length rest ≡ length s → length rest < 2 → passes (length s - 1) s ≡ true

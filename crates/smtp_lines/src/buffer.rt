@@ -3,13 +3,14 @@
 //! A cutter takes the bytes that it gave away out of its buffer when it gives a line, not when bytes come. So never more than
 //! half of what is held is given away. Where nothing whole is there it takes away all that was given. What stays came behind the
 //! last line, so each byte of it is moved once at most for it.
-ghost use Rattle.std.specs.Prelude.{◌≡◌, ◌≢◌, ◌↔◌, ℕ, ◌+◌, ◌-◌, ◌*◌, ◌≤◌, ◌<◌, true, false, [], ◌++◌, length, take, drop, nat_lt, None, IfNone, IfSome, IfOk, OnOk, OnErr, ◌∷◌};
+ghost use Rattle.std.specs.Prelude.{◌≡◌, ◌≢◌, ◌↔◌, ℕ, ◌+◌, ◌-◌, ◌*◌, ◌≤◌, ◌<◌, true, false, [], ◌++◌, length, take, drop, slice_index, nat_lt, None, IfNone, IfSome, IfOk, OnOk, OnErr, ◌∷◌};
 ghost use Rattle.smtp_lines.specs.Lines.{is_end, last_byte, lines_of, tail_of, held_of, shortened};
 ghost use Rattle.smtp_lines.specs.Holding.{IsKept, marked, seen};
 ghost use Rattle.smtp_lines.specs.Passed.{passes};
 ghost use Rattle.smtp_lines.specs.Line.{kept_of, smtp_lines_of, FindsLine, TakesLine};
 
 use crate::{MOST_LINE, SmtpLine};
+use memchr::memchr;
 use std::alloc::Global;
 use std::marker::Model;
 use undo_base::{NoMemory, Text};
@@ -19,7 +20,7 @@ const CR: u8 = 13;
 const LF: u8 = 10;
 
 /// The bytes of a stream that were not given as lines yet. They stand behind those that were given, which are never more than half of all.
-/// At the first places of them it was seen that no CRLF begins there, so that no byte is looked at twice. Of a line that is too long,
+/// At the first places of them it was seen that no CRLF begins there, so that no later call looks there. Of a line that is too long,
 /// `over`, all behind its first `MOST_LINE` bytes was left out, up to those that came after that. Contracts see the stream, and beside it
 /// how many bytes are in memory: a buffer has no other field that could keep more.
 #[derive(Debug, Drop)]
@@ -260,7 +261,9 @@ fn drop_front(bytes: &mut Vec<u8>, count: usize)
     requires { count ≤ length bytes.old.items }
     ensures { bytes.new.items ≡ drop count bytes.old.items }
 {
-    bytes.drain(..count);
+    let left = bytes.len() - count;
+    bytes.rotate_left(count);
+    bytes.truncate(left);
 }
 
 /// Takes the bytes away from one place to another.
@@ -320,7 +323,7 @@ fn drop_given(bytes: &mut Vec<u8>, given: usize) -> usize
     if given < bytes.len() - given {
         return given;
     }
-    bytes.drain(..given);
+    drop_front(bytes, given);
     0
 }
 
@@ -337,7 +340,21 @@ fn is_line_end(first: u8, second: u8) -> bool
     first == CR && second == LF
 }
 
-/// Where the first CRLF stands, of bytes at whose first places none begins.
+/// At how many first places no CRLF begins, where at the first none does: up to the next CR, or all but the last.
+fn places_to_cr(bytes: &[u8]) -> usize
+    requires two { 2 ≤ length bytes.now }
+    requires apart { is_end (slice_index bytes.now 0) (slice_index bytes.now 1) ≡ false }
+    ensures some { 0 < result }
+    ensures within { result < length bytes.now }
+    ensures passed { passes result bytes.now ≡ true }
+{
+    match memchr(CR, after(bytes, 1)) {
+        Some(place) => place + 1,
+        None => bytes.len() - 1,
+    }
+}
+
+/// Where the first CRLF stands, of bytes at whose first places none begins. It is looked for at each CR.
 fn line_end(bytes: &[u8], seen: usize) -> Option<usize>
     requires { passes seen bytes.now ≡ true }
     ensures passed { IfNone result (passes (length bytes.now - 1) bytes.now ≡ true) }
@@ -352,8 +369,9 @@ fn line_end(bytes: &[u8], seen: usize) -> Option<usize>
         if is_line_end(*first, *second) {
             return Some(passed);
         }
-        rest = after(rest, 1);
-        passed += 1;
+        let count = places_to_cr(rest);
+        rest = after(rest, count);
+        passed += count;
     }
     None
 }
