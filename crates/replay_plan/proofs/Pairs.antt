@@ -113,7 +113,7 @@ among_parts_tail : (n : ℕ) (ks : List Key) → list_any (same_part (TailOf n))
 among_parts_tail n [] = refl
 among_parts_tail n (k ∷ ks) = among_parts_tail n ks
 
-among_parts_at : (o : Key) (ks : List Key) → list_any (same_part (At o)) (key_parts ks) ≡ is_among ks o
+among_parts_at : (o : Key) (ks : List Key) → list_any (same_part (At o.item o.index)) (key_parts ks) ≡ is_among ks o
 among_parts_at o [] = refl
 among_parts_at o (k ∷ ks) = ap (λ b. same_key o k || b) (among_parts_at o ks)
 

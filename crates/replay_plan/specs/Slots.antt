@@ -4,7 +4,6 @@ use Rattle.std.specs.List.{list_any}
 use Rattle.std.specs.Map.{lookup}
 use Rattle.undo_base.specs.declared.keys.User.{User}
 use Rattle.undo_base.specs.declared.keys.Key.{Key}
-use Rattle.verb_core.specs.Mailboxes.{same_key}
 use Rattle.verb_core.specs.Boxes.{same_user}
 use Rattle.touch_rules.specs.declared.touched.Touch.{Touch}
 use Rattle.touch_rules.specs.declared.touched.Touch.TheVariants.{Keys, Tail, Whole as WholeBox, Names, Every}
@@ -22,7 +21,7 @@ pub record Spot : Type 0 where
   pub part : Part
 
 abbrev pub spot_of : Slot → Spot
-spot_of s = record { user = s.user; mailbox = option_map (λ name. name.items) s.mailbox; written = s.written; part = s.part }
+spot_of s = record { user = record { 0 = s.user }; mailbox = option_map (λ name. name.0.now) s.mailbox; written = s.written; part = s.part }
 
 -- whether it is a part of all places of a user
 abbrev pub is_users : Part → Bool
@@ -45,7 +44,7 @@ same_part Whole Whole = true
 same_part Tails Tails = true
 same_part (TailOf a) (TailOf b) = a == b
 same_part (KeysOf a) (KeysOf b) = a == b
-same_part (At a) (At b) = same_key a b
+same_part (At a i) (At b j) = (a == b) && (i == j)
 same_part (Level a) (Level b) = a == b
 same_part _ _ = false
 
@@ -64,7 +63,7 @@ level_at levels spot = unwrap_or (lookup (λ s. same_spot spot (spot_of s)) leve
 
 abbrev pub key_parts : List Key → List Part
 key_parts [] = []
-key_parts (key ∷ keys) = KeysOf key.item ∷ At key ∷ key_parts keys
+key_parts (key ∷ keys) = KeysOf key.item ∷ At key.item key.index ∷ key_parts keys
 
 -- the parts of its place, and of its user, that a touch is of
 abbrev pub parts_of : Touch → List Part
@@ -76,7 +75,7 @@ parts_of (Every u) = Anywhere ∷ Everywhere ∷ []
 
 abbrev pub key_asked : List Key → List Part
 key_asked [] = []
-key_asked (key ∷ keys) = TailOf key.item ∷ At key ∷ key_asked keys
+key_asked (key ∷ keys) = TailOf key.item ∷ At key.item key.index ∷ key_asked keys
 
 -- the parts of its place that a later touch must come behind: a touch of one of them speaks of the same messages
 abbrev pub own_asked : Touch → List Part

@@ -12,8 +12,8 @@ use touch_rules::Touch;
 use undo_base::NoMemory;
 
 /// With a level at a slot, unless a higher one is there.
-fn raise(last: &mut Table, slot: Slot, level: u32) -> Result<(), NoMemory>
-    ensures { OnOk result ((spot : _) → level_at last.new spot ≡ max (if same_spot spot (spot_of slot) then level else 0) (level_at last.old spot)) }
+fn raise<'a>(last: &mut Table<'a>, slot: Slot<'a>, level: u32) -> Result<(), NoMemory>
+    ensures { OnOk result ((spot : _) → level_at last.new spot ≡ max (if same_spot spot (spot_of slot.entry) then level else 0) (level_at last.old spot)) }
 {
     if last.get(&slot) < level {
         last.set(slot, level)?;
@@ -22,10 +22,9 @@ fn raise(last: &mut Table, slot: Slot, level: u32) -> Result<(), NoMemory>
 }
 
 /// With the level of a touch at these parts of its place.
-fn raise_parts(
-    alloc: Global,
-    last: &mut Table,
-    touch: &Touch,
+fn raise_parts<'a>(
+    last: &mut Table<'a>,
+    touch: &'a Touch,
     written: bool,
     parts: &[Part],
     level: u32,
@@ -33,29 +32,34 @@ fn raise_parts(
     ensures { OnOk result ((spot : _) → level_at last.new spot ≡ max (if list_any (λ part. same_spot spot (spot_on touch.now written part)) parts.now then level else 0) (level_at last.old spot)) }
 {
     for part in parts {
-        let slot = slot_on(alloc, touch, written, *part)?;
+        let slot = slot_on(touch, written, *part);
         raise(last, slot, level)?;
     }
     Ok(())
 }
 
 /// With the level of a touch.
-fn raise_touch(alloc: Global, last: &mut Table, touch: &Touch, level: u32) -> Result<(), NoMemory>
+fn raise_touch<'a>(
+    alloc: Global,
+    last: &mut Table<'a>,
+    touch: &'a Touch,
+    level: u32,
+) -> Result<(), NoMemory>
     ensures { OnOk result ((spot : _) → level_at last.new spot ≡ max (if is_at (parts_of touch.now) touch.now spot then level else 0) (level_at last.old spot)) }
 {
     let parts = parts(alloc, touch)?;
-    raise_parts(alloc, last, touch, false, parts.as_slice(), level)?;
+    raise_parts(last, touch, false, parts.as_slice(), level)?;
     if touch.writes() {
-        raise_parts(alloc, last, touch, true, parts.as_slice(), level)?;
+        raise_parts(last, touch, true, parts.as_slice(), level)?;
     }
     Ok(())
 }
 
 /// With the level of an item.
-pub(crate) fn raise_item(
+pub(crate) fn raise_item<'a>(
     alloc: Global,
-    last: &mut Table,
-    touches: &[Touch],
+    last: &mut Table<'a>,
+    touches: &'a [Touch],
     level: u32,
 ) -> Result<(), NoMemory>
     ensures { OnOk result ((spot : _) → level_at last.new spot ≡ max (if list_any (λ a. is_at (parts_of a) a spot) touches.now then level else 0) (level_at last.old spot)) }
@@ -73,27 +77,31 @@ fn higher(a: u32, b: u32) -> u32
 }
 
 /// The highest level at these parts of a touch's place.
-fn highest_at(alloc: Global, last: &Table, touch: &Touch, parts: &[Part]) -> Result<u32, NoMemory>
-    ensures { IfOk result (λ level. level ≡ highest (map (λ part. level_at last.now (asked_on touch.now part)) parts.now)) }
+fn highest_at<'a>(last: &Table<'a>, touch: &'a Touch, parts: &[Part]) -> u32
+    ensures { result ≡ highest (map (λ part. level_at last.now (asked_on touch.now part)) parts.now) }
 {
     let mut high = 0;
     for part in parts {
-        let slot = slot_on(alloc, touch, !touch.writes(), *part)?;
+        let slot = slot_on(touch, !touch.writes(), *part);
         high = higher(high, last.get(&slot));
     }
-    Ok(high)
+    high
 }
 
 /// The last level behind which a touch must come.
-fn touch_bound(alloc: Global, last: &Table, touch: &Touch) -> Result<u32, NoMemory>
+fn touch_bound<'a>(alloc: Global, last: &Table<'a>, touch: &'a Touch) -> Result<u32, NoMemory>
     ensures { IfOk result (λ level. level ≡ highest (map (λ part. level_at last.now (asked_on touch.now part)) (asked_by touch.now))) }
 {
     let parts = asked(alloc, touch)?;
-    highest_at(alloc, last, touch, parts.as_slice())
+    Ok(highest_at(last, touch, parts.as_slice()))
 }
 
 /// The last level behind which an item must come.
-pub(crate) fn item_bound(alloc: Global, last: &Table, touches: &[Touch]) -> Result<u32, NoMemory>
+pub(crate) fn item_bound<'a>(
+    alloc: Global,
+    last: &Table<'a>,
+    touches: &'a [Touch],
+) -> Result<u32, NoMemory>
     ensures { IfOk result (λ level. level ≡ bound last.now touches.now) }
 {
     let mut high = 0;

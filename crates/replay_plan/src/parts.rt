@@ -1,13 +1,13 @@
 //! Which parts of its place and of its user a touch is of, and which a later touch must come behind.
-ghost use Rattle.std.specs.Prelude.{◌≡◌, [], ◌∷◌, ◌++◌, IfOk, OnOk, option_map, Some};
+ghost use Rattle.std.specs.Prelude.{◌≡◌, [], ◌∷◌, ◌++◌, IfOk, OnOk, option_map};
 ghost use Rattle.touch_rules.specs.Commuting.{mailbox_of};
 ghost use Rattle.replay_plan.specs.declared.slots.Part.TheVariants.{Anywhere, Everywhere, Anything, Whole, Tails, TailOf, KeysOf};
 ghost use Rattle.replay_plan.specs.Slots.{spot_of, spot_on, is_users, mailbox_at, parts_of, asked_by, key_parts, key_asked};
 
-use crate::slots::{Part, Slot};
+use crate::slots::{Part, Slot, Spelled};
 use std::alloc::Global;
 use touch_rules::Touch;
-use undo_base::{Key, Name, NoMemory};
+use undo_base::{Key, NoMemory};
 
 /// The parts of messages that a touch is of.
 fn with_keys(parts: &mut Vec<Part>, keys: &[Key]) -> Result<(), NoMemory>
@@ -15,7 +15,7 @@ fn with_keys(parts: &mut Vec<Part>, keys: &[Key]) -> Result<(), NoMemory>
 {
     for key in keys {
         parts.push(Part::KeysOf(key.item))?;
-        parts.push(Part::At(*key))?;
+        parts.push(Part::At(key.item, key.index))?;
     }
     Ok(())
 }
@@ -26,7 +26,7 @@ fn with_asked_keys(parts: &mut Vec<Part>, keys: &[Key]) -> Result<(), NoMemory>
 {
     for key in keys {
         parts.push(Part::TailOf(key.item))?;
-        parts.push(Part::At(*key))?;
+        parts.push(Part::At(key.item, key.index))?;
     }
     Ok(())
 }
@@ -95,20 +95,12 @@ pub(crate) fn asked(alloc: Global, touch: &Touch) -> Result<Vec<Part>, NoMemory>
     }
 }
 
-fn name_bytes(alloc: Global, name: &Name) -> Result<Option<Vec<u8>>, NoMemory>
-    ensures { IfOk result (λ bytes. option_map (λ b. b.items) bytes ≡ Some name.now) }
-{
-    let mut bytes = Vec::new(alloc);
-    bytes.extend_from_slice(name.bytes())?;
-    Ok(Some(bytes))
-}
-
-fn own_mailbox(alloc: Global, touch: &Touch) -> Result<Option<Vec<u8>>, NoMemory>
-    ensures { IfOk result (λ bytes. option_map (λ b. b.items) bytes ≡ mailbox_of touch.now) }
+fn own_mailbox(touch: &Touch) -> Option<Spelled<'_>>
+    ensures { option_map (λ name. name.0.now) result ≡ mailbox_of touch.now }
 {
     match touch.mailbox() {
-        Some(name) => name_bytes(alloc, name),
-        None => Ok(None),
+        Some(name) => Some(Spelled(name.bytes())),
+        None => None,
     }
 }
 
@@ -124,34 +116,28 @@ fn of_user(part: Part) -> bool
         Part::Tails => false,
         Part::TailOf(_) => false,
         Part::KeysOf(_) => false,
-        Part::At(_) => false,
+        Part::At(_, _) => false,
         Part::Level(_) => false,
     }
 }
 
-fn mailbox(alloc: Global, touch: &Touch, part: Part) -> Result<Option<Vec<u8>>, NoMemory>
-    ensures { IfOk result (λ bytes. option_map (λ b. b.items) bytes ≡ mailbox_at touch.now part) }
+fn mailbox(touch: &Touch, part: Part) -> Option<Spelled<'_>>
+    ensures { option_map (λ name. name.0.now) result ≡ mailbox_at touch.now part }
 {
     if of_user(part) {
-        return Ok(None);
+        return None;
     }
-    own_mailbox(alloc, touch)
+    own_mailbox(touch)
 }
 
 /// A slot at the place of a touch, or at its user.
-pub(crate) fn slot_on(
-    alloc: Global,
-    touch: &Touch,
-    written: bool,
-    part: Part,
-) -> Result<Slot, NoMemory>
-    ensures { IfOk result (λ slot. spot_of slot ≡ spot_on touch.now written part) }
+pub(crate) fn slot_on(touch: &Touch, written: bool, part: Part) -> Slot<'_>
+    ensures { spot_of result ≡ spot_on touch.now written part }
 {
-    let mailbox = mailbox(alloc, touch, part)?;
-    Ok(Slot {
-        user: touch.user(),
-        mailbox,
-        written,
+    Slot {
+        mailbox: mailbox(touch, part),
         part,
-    })
+        written,
+        user: touch.user().0,
+    }
 }

@@ -17,11 +17,11 @@ use undo_base::NoMemory;
 
 /// The level of an item: the first above those of the earlier items with which it does not commute that none has of which
 /// it is not independent.
-fn level_of(
+fn level_of<'a>(
     alloc: Global,
-    last: &Table,
-    next: &mut Table,
-    touches: &[Touch],
+    last: &Table<'a>,
+    next: &mut Table<'a>,
+    touches: &'a [Touch],
     end: u32,
 ) -> Result<u32, NoMemory>
     requires few { bound last.now touches.now < end }
@@ -31,7 +31,7 @@ fn level_of(
     ensures level { IfOk result (IsUntaken next.old touches.now (bound last.now touches.now + 1)) }
 {
     let low = item_bound(alloc, last, touches)? + 1;
-    free_level(alloc, next, touches, low, end)
+    free_level(next, touches, low, end)
 }
 
 /// The level of each item.
@@ -47,7 +47,7 @@ fn each_level(alloc: Global, all: &[TouchSet]) -> Result<Vec<u32>, NoMemory>
         let touches = all[place].as_slice();
         let level = level_of(alloc, &last, &mut next, touches, end)?;
         raise_item(alloc, &mut last, touches, level)?;
-        take_item(alloc, &mut next, touches, level, end)?;
+        take_item(&mut next, touches, level, end)?;
         levels.push(level)?;
     }
     Ok(levels)

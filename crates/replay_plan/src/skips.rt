@@ -14,29 +14,21 @@ ghost use Rattle.replay_plan.specs.Slots.{spot_on, same_spot, level_at, is_at, L
 
 use crate::parts::slot_on;
 use crate::slots::{Part, Table};
-use std::alloc::Global;
 use touch_rules::Touch;
 use undo_base::NoMemory;
 
 /// Where a level leads; 0 where it is not taken.
-fn look(
-    alloc: Global,
-    next: &Table,
-    touch: &Touch,
-    written: bool,
-    level: u32,
-) -> Result<u32, NoMemory>
-    ensures { IfOk result (λ further. further ≡ level_at next.now (spot_on touch.now written (Level level))) }
+fn look<'a>(next: &Table<'a>, touch: &'a Touch, written: bool, level: u32) -> u32
+    ensures { result ≡ level_at next.now (spot_on touch.now written (Level level)) }
 {
-    let slot = slot_on(alloc, touch, written, Part::Level(level))?;
-    Ok(next.get(&slot))
+    let slot = slot_on(touch, written, Part::Level(level));
+    next.get(&slot)
 }
 
 /// With a level that is taken leading as far as the one that it leads to.
-fn shorten(
-    alloc: Global,
-    next: &mut Table,
-    touch: &Touch,
+fn shorten<'a>(
+    next: &mut Table<'a>,
+    touch: &'a Touch,
     written: bool,
     level: u32,
     further: u32,
@@ -48,19 +40,18 @@ fn shorten(
     ensures same { OnOk result (SameTaken next.old next.new) }
     ensures leads { OnOk result (Leads end next.new) }
 {
-    let beyond = look(alloc, next, touch, written, further)?;
+    let beyond = look(next, touch, written, further);
     if beyond > 0 {
-        let slot = slot_on(alloc, touch, written, Part::Level(level))?;
+        let slot = slot_on(touch, written, Part::Level(level));
         next.set(slot, beyond)?;
     }
     Ok(())
 }
 
 /// The first level from one on that is not taken. What is passed over is shortened, so that it is not passed again.
-fn first_free(
-    alloc: Global,
-    next: &mut Table,
-    touch: &Touch,
+fn first_free<'a>(
+    next: &mut Table<'a>,
+    touch: &'a Touch,
     written: bool,
     level: u32,
     end: u32,
@@ -71,20 +62,19 @@ fn first_free(
     ensures free { IfOk result (IsNextFree end next.old (spot_on touch.now written (Level level)) level) }
 {
     let mut free = level;
-    let mut further = look(alloc, next, touch, written, free)?;
+    let mut further = look(next, touch, written, free);
     while further > 0 {
-        shorten(alloc, next, touch, written, free, further, end)?;
+        shorten(next, touch, written, free, further, end)?;
         free = further;
-        further = look(alloc, next, touch, written, free)?;
+        further = look(next, touch, written, free);
     }
     Ok(free)
 }
 
 /// A level from one on, past levels that are taken for an item; it is the same level where that one is free.
-fn past_item(
-    alloc: Global,
-    next: &mut Table,
-    touches: &[Touch],
+fn past_item<'a>(
+    next: &mut Table<'a>,
+    touches: &'a [Touch],
     level: u32,
     end: u32,
 ) -> Result<u32, NoMemory>
@@ -95,16 +85,15 @@ fn past_item(
 {
     let mut free = level;
     for touch in touches {
-        free = first_free(alloc, next, touch, !touch.writes(), free, end)?;
+        free = first_free(next, touch, !touch.writes(), free, end)?;
     }
     Ok(free)
 }
 
 /// The first level from one on that is not taken for an item.
-pub(crate) fn free_level(
-    alloc: Global,
-    next: &mut Table,
-    touches: &[Touch],
+pub(crate) fn free_level<'a>(
+    next: &mut Table<'a>,
+    touches: &'a [Touch],
     low: u32,
     end: u32,
 ) -> Result<u32, NoMemory>
@@ -114,19 +103,18 @@ pub(crate) fn free_level(
     ensures free { IfOk result (IsUntaken next.old touches.now low) }
 {
     let mut level = low;
-    let mut free = past_item(alloc, next, touches, level, end)?;
+    let mut free = past_item(next, touches, level, end)?;
     while free > level {
         level = free;
-        free = past_item(alloc, next, touches, level, end)?;
+        free = past_item(next, touches, level, end)?;
     }
     Ok(level)
 }
 
 /// With a level that is taken at a touch's place.
-fn take(
-    alloc: Global,
-    next: &mut Table,
-    touch: &Touch,
+fn take<'a>(
+    next: &mut Table<'a>,
+    touch: &'a Touch,
     written: bool,
     level: u32,
     end: u32,
@@ -136,18 +124,18 @@ fn take(
     ensures taken { OnOk result ((spot : _) → nat_lt 0 (level_at next.new spot) ≡ (same_spot spot (spot_on touch.now written (Level level)) || nat_lt 0 (level_at next.old spot))) }
     ensures leads { OnOk result (Leads end next.new) }
 {
-    if look(alloc, next, touch, written, level)? == 0 {
-        let slot = slot_on(alloc, touch, written, Part::Level(level))?;
+    let further = look(next, touch, written, level);
+    if further == 0 {
+        let slot = slot_on(touch, written, Part::Level(level));
         next.set(slot, level + 1)?;
     }
     Ok(())
 }
 
 /// With a level that is taken by a touch.
-fn take_touch(
-    alloc: Global,
-    next: &mut Table,
-    touch: &Touch,
+fn take_touch<'a>(
+    next: &mut Table<'a>,
+    touch: &'a Touch,
     level: u32,
     end: u32,
 ) -> Result<(), NoMemory>
@@ -156,18 +144,17 @@ fn take_touch(
     ensures taken { OnOk result ((spot : _) → nat_lt 0 (level_at next.new spot) ≡ (is_at (Level level ∷ []) touch.now spot || nat_lt 0 (level_at next.old spot))) }
     ensures leads { OnOk result (Leads end next.new) }
 {
-    take(alloc, next, touch, false, level, end)?;
+    take(next, touch, false, level, end)?;
     if touch.writes() {
-        take(alloc, next, touch, true, level, end)?;
+        take(next, touch, true, level, end)?;
     }
     Ok(())
 }
 
 /// With a level that is taken by an item.
-pub(crate) fn take_item(
-    alloc: Global,
-    next: &mut Table,
-    touches: &[Touch],
+pub(crate) fn take_item<'a>(
+    next: &mut Table<'a>,
+    touches: &'a [Touch],
     level: u32,
     end: u32,
 ) -> Result<(), NoMemory>
@@ -177,7 +164,7 @@ pub(crate) fn take_item(
     ensures leads { OnOk result (Leads end next.new) }
 {
     for touch in touches {
-        take_touch(alloc, next, touch, level, end)?;
+        take_touch(next, touch, level, end)?;
     }
     Ok(())
 }

@@ -6,15 +6,19 @@
 //! are taken at each place. An item looks at the parts that it must come behind and at the levels taken, at nothing else.
 //! `may_have` over all earlier items stays the definition.
 ghost use Rattle.std.specs.Prelude.{◌≡◌, OnOk, if◌then◌else◌};
+ghost use Rattle.std.specs.Hash as fed;
+ghost use Rattle.std.specs.Cmp.Lexicographic.{bytes_decides};
+ghost use Rattle.std.proofs.Common.{ap};
 ghost use Rattle.replay_plan.specs.Slots.{spot_of, same_spot, level_at};
 
 use std::alloc::Global;
-use std::collections::BTreeMap;
+use std::collections::HashMap;
+use std::hash::{Hash, Hasher};
 use std::marker::Model;
-use undo_base::{Key, NoMemory, User};
+use undo_base::NoMemory;
 
 /// What of a place, or of all places of a user, is touched, or a level that items of the place have.
-#[derive(Clone, Copy, PartialEq, Eq, PartialOrd, Ord)]
+#[derive(Clone, Copy, PartialEq, Eq, Hash)]
 pub(crate) enum Part {
     /// Anything of the user.
     Anywhere,
@@ -30,29 +34,43 @@ pub(crate) enum Part {
     TailOf(u32),
     /// Messages of the item of a number.
     KeysOf(u32),
-    /// One message.
-    At(Key),
+    /// One message, by the number of its item and which of that item's messages it is.
+    At(u32, u16),
     Level(u32),
 }
 
-/// A part of a place, and whether only those that write it count. In order they stand by their parts first, so that most
-/// comparisons look at no name, and what is new stands together.
-#[derive(Drop, PartialEq, Eq, PartialOrd, Ord)]
-pub(crate) struct Slot {
+/// The name of a mailbox, where a touch has it. It is fed to a hasher at once, not byte by byte.
+#[derive(Clone, Copy, PartialEq, Eq)]
+pub(crate) struct Spelled<'a>(pub(crate) &'a [u8]);
+
+impl<'a> Hash for Spelled<'a> {
+    ghost hash_input = { λ name. fed.str name.0.now };
+
+    ghost respects_eq = { λ a b same. ap fed.str ((bytes_decides a.0.now b.0.now).0 same) };
+
+    fn hash<H: Hasher>(&self, state: &mut H) {
+        state.write(self.0);
+        state.write_u8(255);
+    }
+}
+
+/// A part of a place, and whether only those that write it count. The mailbox's name is the touch's own, so none is copied.
+#[derive(Clone, Copy, PartialEq, Eq, Hash)]
+pub(crate) struct Slot<'a> {
+    /// None is where the user's mailboxes are named, and for what is of all places of the user.
+    pub(crate) mailbox: Option<Spelled<'a>>,
     pub(crate) part: Part,
     pub(crate) written: bool,
-    pub(crate) user: User,
-    /// None is where the user's mailboxes are named, and for what is of all places of the user.
-    pub(crate) mailbox: Option<Vec<u8>>,
+    pub(crate) user: u8,
 }
 
-/// A level for each slot, and 0 where there is none.
+/// A level for each slot, and 0 where there is none. It lies in a few long pieces of memory, which go back whole.
 #[derive(Drop)]
-pub(crate) struct Table {
-    levels: BTreeMap<Slot, u32>,
+pub(crate) struct Table<'a> {
+    levels: HashMap<Slot<'a>, u32>,
 }
 
-impl Model for Table {
+impl<'a> Model for Table<'a> {
     ghost use Rattle.std.specs.Prelude.{List, ℕ};
     ghost use Rattle.replay_plan.specs.declared.slots.Slot.{Slot};
 
@@ -61,16 +79,16 @@ impl Model for Table {
     ghost view = { λ t. t.levels.entries };
 }
 
-impl Table {
-    pub(crate) fn new(alloc: Global) -> Table
+impl<'a> Table<'a> {
+    pub(crate) fn new(alloc: Global) -> Table<'a>
         ensures { (spot : _) → level_at result spot ≡ 0 }
     {
         Table {
-            levels: BTreeMap::new(alloc),
+            levels: HashMap::new(alloc),
         }
     }
 
-    pub(crate) fn get(&self, slot: &Slot) -> u32
+    pub(crate) fn get(&self, slot: &Slot<'a>) -> u32
         ensures { result ≡ level_at self.now (spot_of slot.now) }
     {
         match self.levels.get(slot) {
@@ -79,8 +97,8 @@ impl Table {
         }
     }
 
-    pub(crate) fn set(&mut self, slot: Slot, level: u32) -> Result<(), NoMemory>
-        ensures { OnOk result ((spot : _) → level_at self.new spot ≡ (if same_spot spot (spot_of slot) then level else level_at self.old spot)) }
+    pub(crate) fn set(&mut self, slot: Slot<'a>, level: u32) -> Result<(), NoMemory>
+        ensures { OnOk result ((spot : _) → level_at self.new spot ≡ (if same_spot spot (spot_of slot.entry) then level else level_at self.old spot)) }
     {
         self.levels.insert(slot, level)?;
         Ok(())

@@ -14,7 +14,7 @@ loop-further-preserved c =
     record {
       same = λ s. c.in_ok-shorten.ensures.same s ∙ c.loop-further.invariant.same s;
       leads = c.in_ok-shorten.ensures.leads;
-      further = c.in_ok-further-2.ensures;
+      further = c.look-further-in-loop-further.ensures;
       from = omega (arith, over, c.loop-further.invariant.from);
       within = omega (arith, most);
       first = led_first c.args.end c.loop-further.next (spot_on c.args.touch.now c.args.written (Level 0)) c.loop-further.free c.loop-further.further c.loop-further.invariant.leads c.loop-further.invariant.further c.loop-further-test.true

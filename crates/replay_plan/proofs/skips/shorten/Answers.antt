@@ -6,12 +6,12 @@ use Rattle.replay_plan.proofs.skips.shorten.Goals as goal
 
 pub returns-in_ok-set-clause-same : goal.returns-in_ok-set-clause-same
 returns-in_ok-set-clause-same c =
-    shorter_same c.args.end c.args.next.now c.set.new.self (spot_on c.args.touch.now c.args.written (Level 0)) c.args.level c.args.further c.in_ok-beyond.beyond
-    c.requires.leads c.requires.further c.requires.taken c.in_ok-beyond.ensures (omega (arith, c.if-beyond-gt0.true))
-    (λ s. c.in_ok-set.ensures s ∙ ap (λ t. cond (same_spot s t) c.in_ok-beyond.beyond (level_at c.args.next.now s)) c.in_ok-slot.ensures)
+    shorter_same c.args.end c.args.next.now c.set.new.self (spot_on c.args.touch.now c.args.written (Level 0)) c.args.level c.args.further c.look-beyond.result
+    c.requires.leads c.requires.further c.requires.taken c.look-beyond.ensures (omega (arith, c.if-beyond-gt0.true))
+    (λ s. c.in_ok-set.ensures s ∙ ap (λ t. cond (same_spot s t) c.look-beyond.result (level_at c.args.next.now s)) c.slot_on-slot.ensures)
 
 pub returns-in_ok-set-clause-leads : goal.returns-in_ok-set-clause-leads
 returns-in_ok-set-clause-leads c =
-    shorter_leads c.args.end c.args.next.now c.set.new.self (spot_on c.args.touch.now c.args.written (Level 0)) c.args.level c.args.further c.in_ok-beyond.beyond
-    c.requires.leads c.requires.further c.requires.taken c.in_ok-beyond.ensures (omega (arith, c.if-beyond-gt0.true))
-    (λ s. c.in_ok-set.ensures s ∙ ap (λ t. cond (same_spot s t) c.in_ok-beyond.beyond (level_at c.args.next.now s)) c.in_ok-slot.ensures)
+    shorter_leads c.args.end c.args.next.now c.set.new.self (spot_on c.args.touch.now c.args.written (Level 0)) c.args.level c.args.further c.look-beyond.result
+    c.requires.leads c.requires.further c.requires.taken c.look-beyond.ensures (omega (arith, c.if-beyond-gt0.true))
+    (λ s. c.in_ok-set.ensures s ∙ ap (λ t. cond (same_spot s t) c.look-beyond.result (level_at c.args.next.now s)) c.slot_on-slot.ensures)
