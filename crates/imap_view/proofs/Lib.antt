@@ -7,3 +7,4 @@ pub mod Picked
 pub mod Told
 pub mod Gone
 pub mod Arguments
+pub mod Placed

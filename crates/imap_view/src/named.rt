@@ -1,7 +1,8 @@
 //! The messages that a command names.
 //!
 //! A body whose length is not known counts as empty, which never comes about.
-ghost use Rattle.std.specs.Prelude.{◌≡◌, ℕ, ◌<◌, List, Err, true, false, length, option_map, unwrap_or, IfOk};
+ghost use Rattle.std.specs.Prelude.{◌≡◌, ℕ, ◌<◌, ◌++◌, [], List, Err, true, false, length, option_map, unwrap_or, IfOk, OnOk};
+ghost use Rattle.std.specs.List.{cons_option};
 ghost use Rattle.shelf.specs.Notes.{size_of};
 ghost use Rattle.imap_stream.specs.declared.picks.SetRange.{SetRange as TheRange};
 ghost use Rattle.imap_stream.specs.Sets.{Picks};
@@ -83,11 +84,11 @@ pub fn keys_at(alloc: Global, view: &View, places: &Places) -> Result<Keys, NoMe
     Ok(Keys::from_vec(keys))
 }
 
-/// How long a text is: 0 where it is not known.
-fn length_of(sizes: &Shelf, body: Body) -> u32
+/// How long a text is: 0 where it is not known. `near` is where its note is looked for first; what is left there serves the next.
+fn length_of(sizes: &Shelf, body: Body, near: &mut usize) -> u32
     ensures { result ≡ unwrap_or (size_of sizes.now.notes body) 0 }
 {
-    match sizes.size(body) {
+    match sizes.size_near(body, near) {
         None => 0,
         Some(size) => size,
     }
@@ -100,6 +101,7 @@ fn message_of(
     place: usize,
     number: u32,
     known: Known,
+    near: &mut usize,
 ) -> Option<Message>
     requires { is_by_uid entries.now ≡ true }
     ensures { result ≡ option_map (λ e. record { place = number; entry = e; size = unwrap_or (size_of sizes.now.notes e.body) 0 }) (entry_of entries.now known) }
@@ -109,20 +111,27 @@ fn message_of(
         Some(entry) => Some(Message {
             place: number,
             entry: *entry,
-            size: length_of(sizes, entry.body),
+            size: length_of(sizes, entry.body, near),
         }),
     }
 }
 
-/// The message at a place, with its number from 1, as it lies now.
-fn message_at(sizes: &Shelf, entries: &[Entry], view: &[Known], place: u32) -> Option<Message>
+/// The message at a place, with its number from 1, as it lies now. Asked of places in their order, with one `near` that is 0 at
+/// first, it finds most sizes with no search.
+pub fn message_at(
+    sizes: &Shelf,
+    entries: &[Entry],
+    view: &[Known],
+    place: u32,
+    near: &mut usize,
+) -> Option<Message>
     requires order { is_by_uid entries.now ≡ true }
     requires few { length view.now < 4294967295 }
     ensures { result ≡ spec.message_at (size_of sizes.now.notes) entries.now view.now place }
 {
     match view.get(place as usize) {
         None => None,
-        Some(known) => message_of(sizes, entries, place as usize, place + 1, *known),
+        Some(known) => message_of(sizes, entries, place as usize, place + 1, *known, near),
     }
 }
 
@@ -153,21 +162,35 @@ pub fn bare_message_at(entries: &[Entry], view: &[Known], place: u32) -> Option<
     }
 }
 
+/// Adds a message, where there is one.
+fn push_row(rows: &mut Messages, row: Option<Message>) -> Result<(), NoMemory>
+    ensures { OnOk result (rows.new ≡ rows.old ++ cons_option row []) }
+{
+    match row {
+        None => Ok(()),
+        Some(row) => rows.push(row),
+    }
+}
+
+#[tactic(auto, using(crate::proofs::Placed::rows_more))]
 fn all_rows(
     alloc: Global,
     sizes: &Shelf,
     entries: &[Entry],
     view: &[Known],
     places: &[u32],
-) -> Result<Vec<Message>, AllocError>
+) -> Result<Messages, NoMemory>
     requires order { is_by_uid entries.now ≡ true }
     requires few { length view.now < 4294967295 }
-    ensures { IfOk result (λ rows. rows.items ≡ spec.rows_at (size_of sizes.now.notes) entries.now view.now places.now) }
+    ensures { IfOk result (λ rows. rows ≡ spec.rows_at (size_of sizes.now.notes) entries.now view.now places.now) }
 {
-    places
-        .iter()
-        .filter_map(|place| message_at(sizes, entries, view, *place))
-        .collect(alloc)
+    let mut rows = Messages::new(alloc);
+    let mut near = 0;
+    for place in places {
+        let row = message_at(sizes, entries, view, *place, &mut near);
+        push_row(&mut rows, row)?;
+    }
+    Ok(rows)
 }
 
 /// The messages at these places that are still there.
@@ -184,6 +207,5 @@ pub fn rows_at(
     if view.len() >= u32::MAX as usize {
         return Err(NoMemory);
     }
-    let rows = all_rows(alloc, sizes, entries, view.as_slice(), places.as_slice())?;
-    Ok(Messages::from_vec(rows))
+    all_rows(alloc, sizes, entries, view.as_slice(), places.as_slice())
 }
