@@ -4,7 +4,7 @@
 //! bytes.
 //!
 //! In a text a line that was cut makes the text too large by rule, whatever its length.
-ghost use Rattle.std.specs.Prelude.{◌≡◌, ◌++◌, IfOk, OnOk, OnErr, length, ◌≤◌, option_map, option_copied, unwrap_or, []};
+ghost use Rattle.std.specs.Prelude.{◌≡◌, ◌+◌, ◌++◌, IfOk, OnOk, OnErr, length, ◌≤◌, option_map, option_copied, unwrap_or, vec_capacity, vec_len, []};
 ghost use Rattle.smtp_session.specs.Bytes.{said};
 ghost use Rattle.smtp_session.specs.Body.{body_of};
 ghost use Rattle.smtp_session.specs.Text.{add_line, add_whole};
@@ -12,15 +12,44 @@ ghost use Rattle.smtp_session.specs.Text.{add_line, add_whole};
 use crate::body::make_body;
 use smtp_lines::{SmtpLine, unstuff};
 use std::alloc::Global;
+use std::mem;
 use undo_base::{LAST_MOMENT, MOST_LITERAL, Name, NoMemory, Text};
 
-/// A line with its CRLF.
-fn ended(alloc: Global, line: &[u8]) -> Result<Text, NoMemory>
-    ensures { IfOk result (λ bytes. bytes ≡ said line.now) }
+/// Adds bytes for which there is room.
+fn put(bytes: &mut Vec<u8>, more: &[u8])
+    requires { vec_len bytes.old + length more.now ≤ vec_capacity bytes.old }
+    ensures items { bytes.new.items ≡ bytes.old.items ++ more.now }
+    ensures len { vec_len bytes.new ≡ vec_len bytes.old + length more.now }
+    ensures room { vec_capacity bytes.old ≤ vec_capacity bytes.new }
 {
-    let mut bytes = Text::of(alloc, line)?;
-    bytes.extend(b"\r\n")?;
-    Ok(bytes)
+    let Ok(()) = bytes.extend_from_slice(more) else {
+        unreachable!()
+    };
+}
+
+/// Adds a line with its CRLF, or nothing where there is no memory for both.
+fn put_ended(bytes: &mut Vec<u8>, line: &[u8]) -> Result<(), NoMemory>
+    requires { length line.now ≤ MOST_LITERAL }
+    ensures ok { OnOk result (bytes.new.items ≡ bytes.old.items ++ said line.now) }
+    ensures err { OnErr result (bytes.new.items ≡ bytes.old.items) }
+    ensures most { length bytes.new.items ≤ length bytes.old.items + (length line.now + 2) }
+{
+    bytes.reserve(line.len() + 2)?;
+    put(bytes, line);
+    put(bytes, b"\r\n");
+    Ok(())
+}
+
+/// The same at the end of a text: the line is copied once.
+fn push_ended(alloc: Global, text: &mut Text, line: &[u8]) -> Result<(), NoMemory>
+    requires { length text.old + (length line.now + 2) ≤ MOST_LITERAL }
+    ensures ok { OnOk result (text.new ≡ text.old ++ said line.now) }
+    ensures err { OnErr result (text.new ≡ text.old) }
+{
+    let mut bytes = mem::replace(text, Text::new(alloc)).into_vec();
+    let added = put_ended(&mut bytes, line);
+    *text = Text::from_vec(bytes);
+    added
 }
 
 /// Adds a whole line to a text, which is none once it has more than `MOST_LITERAL` octets.
@@ -36,8 +65,7 @@ fn push_whole(alloc: Global, text: &mut Option<Text>, line: &[u8]) -> Result<(),
         *text = None;
         return Ok(());
     }
-    let bytes = ended(alloc, line)?;
-    held.extend(bytes.bytes())
+    push_ended(alloc, held, line)
 }
 
 /// Adds a line to a text. One that was cut makes the text too large.
