@@ -1,7 +1,7 @@
 //! Records, written as their bytes.
 //!
 //! A record whose spelling has more than 4,294,967,295 bytes finds no memory.
-ghost use Rattle.std.specs.Prelude.{◌≡◌, IfOk};
+ghost use Rattle.std.specs.Prelude.{◌≡◌, [], IfOk};
 ghost use Rattle.verb_bytes.specs.declared.journal.JournalRecord.TheVariants.{Verb, Operator, Cycle, Snapshot, Upgrade, Withdraw, Base, Text as TextRecord, Kept};
 ghost use Rattle.verb_bytes.specs.Spelling.{ask_fields, filter_fields, scoped_fields, store_fields, record_fields, record_bytes, HasSpelling};
 ghost use Rattle.verb_bytes.specs.Writing.{Encodes, Puts};
@@ -17,6 +17,9 @@ use paradox::Report;
 use std::alloc::Global;
 use undo_base::{LAST_MOMENT, Name, NoMemory, Text};
 use verb_core::{Act, Body, BoxId, Conf, Item, Mailbox, are_of_body};
+
+/// The fields of most items that stand beside a text have no more bytes.
+const BESIDE: usize = 512;
 
 #[tactic(auto, using(crate::proofs::Puts::list_steps))]
 fn put_ask(ask: &CycleAsk, out: &mut Text) -> Result<(), Unwritten>
@@ -222,11 +225,21 @@ pub fn spell_record(alloc: Global, what: &JournalRecord) -> Result<Text, Unwritt
     Ok(out)
 }
 
-/// The same of the record of a user's item.
+/// A text of no bytes. Where there is memory for so many and the fields beside them, there is room for these.
+fn text_with_room(alloc: Global, count: usize) -> Text
+    ensures { result ≡ [] }
+{
+    match Vec::with_capacity(alloc, count.saturating_add(BESIDE)) {
+        Ok(bytes) => Text::from_vec(bytes),
+        Err(_) => Text::new(alloc),
+    }
+}
+
+/// The same of the record of a user's item, whose text is copied once.
 pub fn spell_item(alloc: Global, item: &Item) -> Result<Text, Unwritten>
     ensures { Encodes (Verb item.now) result }
 {
-    let mut out = Text::new(alloc);
+    let mut out = text_with_room(alloc, item.deed.text_bytes().len());
     put_verb(item, &mut out)?;
     Ok(out)
 }
