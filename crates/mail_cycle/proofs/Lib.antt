@@ -2,6 +2,7 @@ pub mod Cycled
 pub mod Heard
 pub mod Left
 pub mod Placing
+pub mod Reworked
 pub mod Parts
 pub mod Lasting
 pub mod Made

@@ -1,21 +1,23 @@
--- The items through the place of a repair, performed as they were read, and what becomes of those behind it.
-use Rattle.std.specs.Prelude.{◌≡◌, ℕ, ◌-◌, ◌≤◌, ◌++◌, List, drop, take, Result, IfOk}
+-- The items through the place of a repair, performed as they were read, what becomes of those behind it, and what comes of them all.
+use Rattle.std.specs.Prelude.{◌≡◌, ℕ, ◌+◌, ◌-◌, ◌≤◌, ◌++◌, List, drop, length, take, Result, IfOk, OnErr}
 use Rattle.std.specs.List.{AllByRecursion}
 use Rattle.undo_base.specs.declared.memory.NoMemory.{NoMemory}
+use Rattle.verb_core.specs.declared.bodies.BodiesFault.{BodiesFault}
 use Rattle.verb_core.specs.declared.item.Item.{Item}
 use Rattle.verb_core.specs.Items.{IsWellFormed}
 use Rattle.verb_core.specs.Step.{answers, run}
 use Rattle.verb_core.specs.Store.{IsValid, MailStore}
-use Rattle.verb_core.specs.Texts.{BodiesTold}
+use Rattle.verb_core.specs.Texts.{BodiesTold, StaysTold}
 use Rattle.stored_items.specs.Stored.{AllHeard}
-use Rattle.replay_crew.specs.Hearing.{HoldsOf, StoresOf}
+use Rattle.replay_crew.specs.Hearing.{CountsTextReads, HoldsOf, StoresOf}
+use Rattle.cycle_rules.specs.Repairing.{reworked}
 use Rattle.mail_cycle.specs.declared.beginning.Beginning.{Beginning}
 use Rattle.mail_cycle.specs.declared.cycling.AtPoint.{AtPoint}
 use Rattle.mail_cycle.specs.declared.running.Replayed.{Replayed}
 use Rattle.mail_cycle.specs.declared.settling.Repairs.{Repairs}
 use Rattle.mail_cycle.specs.declared.settling.Rewound.{Rewound}
 use Rattle.mail_cycle.specs.Comparing.{reached_from, reworked_from}
-use Rattle.mail_cycle.specs.Leaving.{LeavesAt}
+use Rattle.mail_cycle.specs.Leaving.{IsMadeFrom, Leaves, LeavesAt}
 use Rattle.mail_cycle.specs.Tasks.{Task}
 
 -- what is told of a repair, of which so many of the first items stay where they are
@@ -59,3 +61,15 @@ pub record Settles (t : Task) (stay : ℕ) (items : List Item) (replayed : Repla
   pub from : IfOk result (λ made. made.from ≡ stay)
   pub made : (first : MailStore) → replayed.store.store ≡ run first items → replayed.shows ≡ drop (t.repair.place - stay) (answers first items)
       → IfOk result (LeavesAt t.kept.timeline (reached_from t.kept t.at t.repair first stay (take stay t.kept.timeline ++ items)) (reworked_from t.kept t.at t.repair first stay (take stay t.kept.timeline ++ items)))
+
+-- What comes of a repair from a beginning. What is left was made from it, of the items as they were read: where that is as they were
+-- stored, and the first items led to its store, it is what the repair leaves. Each item behind the beginning is a step at most, also
+-- where there is no repair after all. The texts were read alone, which left what they are read from as it may be (`led`).
+pub record ReworksFrom (led : Type 0) (t : Task) (first : Beginning) (old new : BodiesTold) (before after : ℕ) (result : Result Rewound BodiesFault) : Type 0 where
+  pub made : IfOk result (IsMadeFrom t.kept t.at t.repair first.store.store first.count old.honest)
+  pub whole : old.honest → first.store.store ≡ run t.kept.base (take first.count t.kept.timeline) → IfOk result (Leaves t.kept (reworked t.kept t.at t.repair))
+  pub steps : IfOk result (λ made. after ≤ before + (t.repair.place - first.count) + t.repair.acts + made.report.kept + length made.report.notices)
+  pub most : OnErr result (after ≤ before + (t.repair.place - first.count) + t.repair.acts + t.repair.kept + length t.kept.house.accounts)
+  pub reads : CountsTextReads old new result
+  pub stays : StaysTold old new
+  pub leads : led

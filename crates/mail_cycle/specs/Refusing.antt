@@ -1,5 +1,7 @@
 -- Why there is no cycle.
 use Rattle.std.specs.Prelude.{◌≡◌, ℕ}
+use Rattle.verb_core.specs.declared.bodies.BodiesFault.{BodiesFault}
+use Rattle.verb_core.specs.declared.bodies.BodiesFault.TheVariants as bodies_faults
 use Rattle.verb_bytes.specs.declared.journal.CycleAsk.{CycleAsk}
 use Rattle.store_kept.specs.Kept.{Kept}
 use Rattle.mail_cycle.specs.declared.refused.CycleRefused.{CycleRefused}
@@ -17,3 +19,8 @@ IsRefusalBy s wanted due NoMemory = IsRewinds due
 -- of a cycle: the timeline does not have its point
 abbrev pub IsRefusalOf : Kept → CycleAsk → Due → CycleRefused → Type 0
 IsRefusalOf s ask due refused = IsRefusalBy s ask.point due refused
+
+-- where a repair that is due was not worked out
+abbrev pub refused_by : BodiesFault → CycleRefused
+refused_by bodies_faults.Failed = Disk
+refused_by bodies_faults.NoMemory = NoMemory

@@ -6,12 +6,9 @@
 ghost use Rattle.std.specs.Prelude.{◌≡◌, ◌+◌, ◌-◌, ◌≤◌, ◌++◌, drop, length, take, IfOk, OnErr, OnOk};
 ghost use Rattle.std.specs.List.{AllByRecursion};
 ghost use Rattle.verb_core.specs.Items.{IsWellFormed};
-ghost use Rattle.verb_core.specs.Step.{run};
 ghost use Rattle.verb_core.specs.Store.{IsValid};
 ghost use Rattle.verb_core.specs.Texts.{StaysTold};
-ghost use Rattle.cycle_rules.specs.Repairing.{reworked};
-ghost use Rattle.mail_cycle.specs.Leaving.{IsMadeFrom, Leaves};
-ghost use Rattle.mail_cycle.specs.Reaching.{AreRepairs, IsAtPoint, Passes, Settles};
+ghost use Rattle.mail_cycle.specs.Reaching.{AreRepairs, IsAtPoint, Passes, ReworksFrom, Settles};
 ghost use Rattle.mail_cycle.specs.Tasks.{Begins};
 ghost use Rattle.replay_crew.specs.Hearing.{CountsTextReads, TellsAll};
 
@@ -40,17 +37,7 @@ fn cut(items: StoredItems, count: usize) -> Result<(StoredItems, StoredItems), N
     Ok((StoredItems::from_vec(front), StoredItems::from_vec(later)))
 }
 
-/// Items, and others behind them: none is copied.
-fn put_behind(front: StoredItems, later: StoredItems) -> Result<StoredItems, NoMemory>
-    ensures { IfOk result (λ all. all ≡ front ++ later) }
-{
-    let mut items = front.into_vec();
-    let mut later = later.into_vec();
-    items.append(&mut later)?;
-    Ok(StoredItems::from_vec(items))
-}
-
-/// Replayed items, with others before them.
+/// Replayed items, with others before them: none is copied.
 fn with_front(front: StoredItems, later: Replayed) -> Result<Replayed, NoMemory>
     ensures items { IfOk result (λ made. made.items ≡ front ++ later.items) }
     ensures store { IfOk result (λ made. made.store.store ≡ later.store.store) }
@@ -61,14 +48,14 @@ fn with_front(front: StoredItems, later: Replayed) -> Result<Replayed, NoMemory>
         store,
         shows,
     } = later;
-    match put_behind(front, items) {
-        Ok(items) => Ok(Replayed {
-            items,
-            store,
-            shows,
-        }),
-        Err(NoMemory) => Err(NoMemory),
-    }
+    let mut all = front.into_vec();
+    let mut items = items.into_vec();
+    all.append(&mut items)?;
+    Ok(Replayed {
+        items: StoredItems::from_vec(all),
+        store,
+        shows,
+    })
 }
 
 /// A repair at its place: the items behind its beginning and through the place, as they were performed, and the store that they lead
@@ -199,14 +186,7 @@ pub fn rework_by_levels<R: Threads + Sync, G: Gate, B: Bodies, L: Ledger>(
 ) -> Result<Rewound, BodiesFault>
     requires begins { Begins due.now first }
     requires texts { TellsAll (B.told bodies.old) (drop first.count due.now.repair.items) }
-    ensures made { IfOk result (IsMadeFrom due.now.kept due.now.at due.now.repair first.store.store first.count (B.told bodies.old).honest) }
-    ensures whole { (B.told bodies.old).honest → first.store.store ≡ run due.now.kept.base (take first.count due.now.kept.timeline)
-        → IfOk result (Leaves due.now.kept (reworked due.now.kept due.now.at due.now.repair)) }
-    ensures steps { IfOk result (λ made. steps.new ≤ steps.old + (due.now.repair.place - first.count) + due.now.repair.acts + made.report.kept + length made.report.notices) }
-    ensures most { OnErr result (steps.new ≤ steps.old + (due.now.repair.place - first.count) + due.now.repair.acts + due.now.repair.kept + length due.now.kept.house.accounts) }
-    ensures reads { CountsTextReads (B.told bodies.old) (B.told bodies.new) result }
-    ensures stays { StaysTold (B.told bodies.old) (B.told bodies.new) }
-    ensures leads { B.leads bodies.old bodies.new }
+    ensures { ReworksFrom (B.leads bodies.old bodies.new) due.now first (B.told bodies.old) (B.told bodies.new) steps.old steps.new result }
 {
     due.stands();
     let there = at_point(alloc, due, first, bodies, steps)?;
@@ -233,14 +213,7 @@ pub fn rework_in_order<B: Bodies, L: Ledger>(
 ) -> Result<Rewound, BodiesFault>
     requires begins { Begins due.now first }
     requires texts { TellsAll (B.told bodies.old) (drop first.count due.now.repair.items) }
-    ensures made { IfOk result (IsMadeFrom due.now.kept due.now.at due.now.repair first.store.store first.count (B.told bodies.old).honest) }
-    ensures whole { (B.told bodies.old).honest → first.store.store ≡ run due.now.kept.base (take first.count due.now.kept.timeline)
-        → IfOk result (Leaves due.now.kept (reworked due.now.kept due.now.at due.now.repair)) }
-    ensures steps { IfOk result (λ made. steps.new ≤ steps.old + (due.now.repair.place - first.count) + due.now.repair.acts + made.report.kept + length made.report.notices) }
-    ensures most { OnErr result (steps.new ≤ steps.old + (due.now.repair.place - first.count) + due.now.repair.acts + due.now.repair.kept + length due.now.kept.house.accounts) }
-    ensures reads { CountsTextReads (B.told bodies.old) (B.told bodies.new) result }
-    ensures stays { StaysTold (B.told bodies.old) (B.told bodies.new) }
-    ensures leads { B.leads bodies.old bodies.new }
+    ensures { ReworksFrom (B.leads bodies.old bodies.new) due.now first (B.told bodies.old) (B.told bodies.new) steps.old steps.new result }
 {
     due.stands();
     let there = at_point(alloc, due, first, bodies, steps)?;

@@ -1,5 +1,6 @@
 //! Why there is no cycle.
 use undo_base::NoMemory;
+use verb_core::BodiesFault;
 
 /// Why there is no cycle. `Point` has the point that the timeline does not have, `Numbers` the next number, where too few are
 /// left for the cycle, its acts and a notice to each user. At `Disk` a text could not be read.
@@ -19,5 +20,20 @@ impl From<NoMemory> for CycleRefused {
 
     fn from(_: NoMemory) -> Self {
         CycleRefused::NoMemory
+    }
+}
+
+/// A repair was not worked out.
+impl From<BodiesFault> for CycleRefused {
+    ghost use Rattle.std.specs.Prelude.{◌≡◌};
+    ghost use Rattle.mail_cycle.specs.Refusing.{refused_by};
+
+    ghost from_gives = { λ fault refused. refused ≡ refused_by fault };
+
+    fn from(fault: BodiesFault) -> Self {
+        match fault {
+            BodiesFault::Failed => CycleRefused::Disk,
+            BodiesFault::NoMemory => CycleRefused::NoMemory,
+        }
     }
 }
