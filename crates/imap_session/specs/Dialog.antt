@@ -59,8 +59,9 @@ use Rattle.imap_view.specs.Views.{is_current, news, view_of}
 use Rattle.imap_view.specs.Named.{keys_at, places_named, rows_at}
 use Rattle.imap_view.specs.Facts.{facts_at, is_there}
 use Rattle.imap_session.specs.Fetching.{ask_of, bodies_of}
-use Rattle.imap_session.specs.Searching.{all_places, ask_for, bare_found, found, is_known_charset, last_uid, numbers_of, search_ask, search_bodies, search_line}
+use Rattle.imap_session.specs.Searching.{all_places, ask_for, bare_found, found, is_known_charset, last_uid, numbers_of, search_ask, search_bodies, search_line, told}
 use Rattle.search_verb.specs.Asked.{Asked}
+use Rattle.search_verb.specs.Meets.{needed}
 
 -- what comes of a command, and the dialog after it
 pub record Took : Type 0 where
@@ -270,10 +271,10 @@ bare_searching selected key by_uid = record {
 abbrev pub pending_for : Searching → List Message → Pending
 pending_for q rows = on.Search q.by_uid (numbers_of q.by_uid rows)
 
--- what comes of one that looks at flags, numbers and days alone
-abbrev pub search_bare : MailStore → List ℕ → Dialog → Selected → Asked → Bool → Took
-search_bare s tag d selected key by_uid =
-    let q = bare_searching selected key by_uid in let rows = bare_found q (mail_of s d.user selected.mailbox) selected.view in
+-- what comes of one that looks at no texts
+abbrev pub search_bare : MailStore → (Body → Option ℕ) → List ℕ → Dialog → Selected → Asked → Bool → Took
+search_bare s sizes tag d selected key by_uid =
+    let q = bare_searching selected key by_uid in let rows = bare_found (told (needed key) sizes) q (mail_of s d.user selected.mailbox) selected.view in
     asks (ask_for q rows) tag (pending_for q rows) d
 
 -- SEARCH and UID SEARCH (RFC 3501, 6.4.4 and 6.4.8)

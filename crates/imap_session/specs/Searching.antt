@@ -88,13 +88,17 @@ found_from q texts place (m ∷ rows) = kept q texts place m ++ found_from q tex
 abbrev pub found : Searching → List (List ℕ) → List Message
 found q texts = if is_too_large q then [] else found_from q texts 0 q.rows
 
--- the message at a place of a view, where it matches what is told without its size and its text
-abbrev pub bare_kept : Searching → List Entry → List Known → ℕ → List Message
-bare_kept q entries view place = option_map_or (λ (m : Message). kept q [] 0 m) (message_at untold entries view place) []
+-- the sizes that are told: none where only flags, numbers and days are looked at
+abbrev pub told : Look → (Body → Option ℕ) → Body → Option ℕ
+told looks sizes = if is_of_more looks then sizes else untold
+
+-- the message at a place of a view, where it matches what is told without its text
+abbrev pub bare_kept : (Body → Option ℕ) → Searching → List Entry → List Known → ℕ → List Message
+bare_kept sizes q entries view place = option_map_or (λ (m : Message). kept q [] 0 m) (message_at sizes entries view place) []
 
 -- those of all places
-abbrev pub bare_found : Searching → List Entry → List Known → List Message
-bare_found q entries view = flat_map (bare_kept q entries view) (all_places view)
+abbrev pub bare_found : (Body → Option ℕ) → Searching → List Entry → List Known → List Message
+bare_found sizes q entries view = flat_map (bare_kept sizes q entries view) (all_places view)
 
 abbrev pub keys_of : List Message → List Key
 keys_of rows = map (λ (m : Message). m.entry.key) rows

@@ -2,9 +2,12 @@
 ghost use Rattle.std.specs.Prelude.{◌≡◌, ◌+◌, ◌<◌, ◌++◌, ◌∷◌, [], Ok, min, length, map, flat_map, get_or, true, IfOk, OnErr, OnOk, IfSome};
 ghost use Rattle.std.specs.Fmt.{decimal};
 ghost use Rattle.std.specs.List.{range_with_len};
+ghost use Rattle.std.specs.Option.{option_map_or};
 ghost use Rattle.shelf.specs.Notes.{size_of};
 ghost use Rattle.verb_core.specs.Store.{IsValid};
 ghost use Rattle.imap_view.specs.Views.{is_by_uid};
+ghost use Rattle.imap_view.specs.Named.{untold};
+ghost use Rattle.search_verb.specs.Meets.{needed};
 ghost use Rattle.imap_session.specs.Searching as search_spec;
 ghost use Rattle.imap_session.specs.Words as words;
 ghost use Rattle.imap_session.specs.Dialog.{took};
@@ -17,7 +20,8 @@ use crate::words::{Answer, search_word};
 use box_store::Store;
 use imap_fetch::{Message, Messages};
 use imap_tokens::is_same_word;
-use imap_view::{Known, View, bare_message_at, mail_of, rows_at};
+use imap_view::{Known, View, bare_message_at, mail_of, message_at, rows_at};
+use itoa::Buffer;
 use search_verb::{Candidate, Look, Search};
 use shelf::Shelf;
 use std::alloc::{AllocError, Global};
@@ -315,20 +319,16 @@ fn found_with(
     found_as(alloc, tag, searching, &rows)
 }
 
-/// Adds the message at a place of a view, where it matches what is told without its size and its text.
-fn keep_bare(
+/// Adds a message, where there is one and it matches what is told without its text.
+fn keep_told(
     alloc: Global,
     found: &mut Messages,
     searching: &Searching,
-    entries: &[Entry],
-    view: &[Known],
-    place: u32,
+    row: Option<Message>,
 ) -> Result<(), NoMemory>
-    requires order { is_by_uid entries.now ≡ true }
-    requires few { length view.now < 4294967295 }
-    ensures { OnOk result (found.new ≡ found.old ++ search_spec.bare_kept searching.now entries.now view.now place) }
+    ensures { OnOk result (found.new ≡ found.old ++ option_map_or (λ m. search_spec.kept searching.now [] 0 m) row []) }
 {
-    match bare_message_at(entries, view, place) {
+    match row {
         None => Ok(()),
         Some(row) => keep(alloc, found, searching, &[], 0, &row),
     }
@@ -342,19 +342,60 @@ fn matching_bare(
     view: &[Known],
 ) -> Result<Messages, NoMemory>
     requires order { is_by_uid entries.now ≡ true }
-    ensures { IfOk result (λ rows. rows ≡ search_spec.bare_found searching.now entries.now view.now) }
+    requires few { length view.now < 4294967295 }
+    ensures { IfOk result (λ rows. rows ≡ search_spec.bare_found untold searching.now entries.now view.now) }
 {
-    if view.len() >= u32::MAX as usize {
-        return Err(NoMemory);
-    }
     let mut found = Messages::new(alloc);
     for place in 0..view.len() as u32 {
-        keep_bare(alloc, &mut found, searching, entries, view, place)?;
+        let row = bare_message_at(entries, view, place);
+        keep_told(alloc, &mut found, searching, row)?;
     }
     Ok(found)
 }
 
-/// A SEARCH that looks at flags, numbers and days alone, with no list of the view's messages.
+/// The same with the size of each, in one pass of the view and of what is noted of texts.
+fn matching_sized(
+    alloc: Global,
+    searching: &Searching,
+    sizes: &Shelf,
+    entries: &[Entry],
+    view: &[Known],
+) -> Result<Messages, NoMemory>
+    requires order { is_by_uid entries.now ≡ true }
+    requires few { length view.now < 4294967295 }
+    ensures { IfOk result (λ rows. rows ≡ search_spec.bare_found (size_of sizes.now.notes) searching.now entries.now view.now) }
+{
+    let mut found = Messages::new(alloc);
+    let mut near = 0;
+    for place in 0..view.len() as u32 {
+        let row = message_at(sizes, entries, view, place, &mut near);
+        keep_told(alloc, &mut found, searching, row)?;
+    }
+    Ok(found)
+}
+
+/// The messages of a view that match, of a search that looks at no texts.
+fn matching_told(
+    alloc: Global,
+    searching: &Searching,
+    sizes: &Shelf,
+    entries: &[Entry],
+    view: &[Known],
+) -> Result<Messages, NoMemory>
+    requires order { is_by_uid entries.now ≡ true }
+    ensures { IfOk result (λ rows. rows ≡ search_spec.bare_found (search_spec.told (needed searching.now.key) (size_of sizes.now.notes)) searching.now entries.now view.now) }
+{
+    if view.len() >= u32::MAX as usize {
+        return Err(NoMemory);
+    }
+    if is_of_more(searching.key.looks()) {
+        matching_sized(alloc, searching, sizes, entries, view)
+    } else {
+        matching_bare(alloc, searching, entries, view)
+    }
+}
+
+/// A SEARCH that looks at no texts, with no list of the view's messages.
 fn bare_searching(
     alloc: Global,
     selected: &Selected,
@@ -376,20 +417,21 @@ fn bare_searching(
     })
 }
 
-/// What it asks of the store where it looks at flags, numbers and days alone, and what is to be said then.
+/// What it asks of the store where it looks at no texts, and what is to be said then.
 fn found_bare(
     alloc: Global,
     tag: &Name,
     searching: &Searching,
+    sizes: &Shelf,
     entries: &[Entry],
     view: &View,
 ) -> Result<Found, NoMemory>
     requires order { is_by_uid entries.now ≡ true }
     ensures tag { IfOk result (λ f. f.tag ≡ tag.now) }
-    ensures asked { IfOk result (λ f. f.asked ≡ search_spec.ask_for searching.now (search_spec.bare_found searching.now entries.now view.now)) }
-    ensures pending { IfOk result (λ f. f.pending ≡ spec.pending_for searching.now (search_spec.bare_found searching.now entries.now view.now)) }
+    ensures asked { IfOk result (λ f. f.asked ≡ search_spec.ask_for searching.now (search_spec.bare_found (search_spec.told (needed searching.now.key) (size_of sizes.now.notes)) searching.now entries.now view.now)) }
+    ensures pending { IfOk result (λ f. f.pending ≡ spec.pending_for searching.now (search_spec.bare_found (search_spec.told (needed searching.now.key) (size_of sizes.now.notes)) searching.now entries.now view.now)) }
 {
-    let rows = matching_bare(alloc, searching, entries, view.as_slice())?;
+    let rows = matching_told(alloc, searching, sizes, entries, view.as_slice())?;
     found_as(alloc, tag, searching, &rows)
 }
 
@@ -397,6 +439,7 @@ fn found_bare(
 fn found_in(
     alloc: Global,
     store: &Store,
+    sizes: &Shelf,
     dialog: &Dialog,
     selected: &Selected,
     tag: &Name,
@@ -404,11 +447,11 @@ fn found_in(
     by_uid: bool,
 ) -> Result<Found, NoMemory>
     requires { IsValid store.now.store }
-    ensures { IfOk result (λ f. spec.asks f.asked f.tag f.pending dialog.now ≡ spec.search_bare store.now.store tag.now dialog.now selected.now key.now by_uid) }
+    ensures { IfOk result (λ f. spec.asks f.asked f.tag f.pending dialog.now ≡ spec.search_bare store.now.store (size_of sizes.now.notes) tag.now dialog.now selected.now key.now by_uid) }
 {
     let entries = mail_of(store, dialog.user, &selected.mailbox);
     let searching = bare_searching(alloc, selected, key, by_uid)?;
-    found_bare(alloc, tag, &searching, entries, &selected.view)
+    found_bare(alloc, tag, &searching, sizes, entries, &selected.view)
 }
 
 fn submit_found(dialog: &mut Dialog, found: Found) -> ImapOut
@@ -492,8 +535,8 @@ pub(crate) fn search(
     if !is_known_charset(charset) {
         return say(alloc, tag, Answer::BadCharset);
     }
-    if !is_of_more(key.looks()) {
-        let found = found_in(alloc, store, dialog, selected, tag, key, by_uid)?;
+    if !is_of_texts(key.looks()) {
+        let found = found_in(alloc, store, sizes, dialog, selected, tag, key, by_uid)?;
         return Ok(submit_found(dialog, found));
     }
     let searching = searching_of(alloc, store, sizes, dialog, selected, key, by_uid)?;
@@ -524,19 +567,19 @@ pub(crate) fn search_texts(
     }
 }
 
-fn push_number(alloc: Global, out: &mut Text, number: u64) -> Result<(), NoMemory>
+fn push_number(out: &mut Text, number: u64) -> Result<(), NoMemory>
     ensures { OnOk result (out.new ≡ out.old ++ 32 ∷ decimal number) }
 {
-    let digits = format!(in alloc; "{}", number)?;
+    let mut digits = Buffer::new();
     out.extend(b" ")?;
-    out.extend(digits.as_bytes())
+    out.extend(digits.format(number).as_bytes())
 }
 
-fn push_numbers(alloc: Global, out: &mut Text, numbers: &[u64]) -> Result<(), NoMemory>
+fn push_numbers(out: &mut Text, numbers: &[u64]) -> Result<(), NoMemory>
     ensures { OnOk result (out.new ≡ out.old ++ flat_map (λ n. 32 ∷ decimal n) numbers.now) }
 {
     for number in numbers {
-        push_number(alloc, out, *number)?;
+        push_number(out, *number)?;
     }
     Ok(())
 }
@@ -546,7 +589,7 @@ fn search_line(alloc: Global, numbers: &Uids) -> Result<Text, NoMemory>
     ensures { IfOk result (λ text. text ≡ search_spec.search_line numbers.now) }
 {
     let mut out = Text::of(alloc, b"* SEARCH")?;
-    push_numbers(alloc, &mut out, numbers.as_slice())?;
+    push_numbers(&mut out, numbers.as_slice())?;
     out.extend(b"\r\n")?;
     Ok(out)
 }
