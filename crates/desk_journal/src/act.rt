@@ -1,9 +1,9 @@
 //! What the operator does.
-ghost use Rattle.std.specs.Prelude.{◌≡◌, ◌<◌, ◌+◌, ℕ, List, [], ◌∷◌, length, Some, false, IsTrue, IfOk, OnOk, IfErr, OnErr, IsErrOf};
+ghost use Rattle.std.specs.Prelude.{◌≡◌, ◌<◌, ℕ, List, [], ◌∷◌, Some, false, IsTrue, IfOk, OnOk, IfErr, OnErr, IsErrOf};
 ghost use Rattle.std.specs.List.{list_all};
 ghost use Rattle.verb_core.specs.Deeds.{act_item};
 ghost use Rattle.verb_core.specs.declared.item.Deed.TheVariants.{Act as Acts};
-ghost use Rattle.verb_core.specs.Items.{IsWellFormed, text_in, users_in};
+ghost use Rattle.verb_core.specs.Items.{text_in, users_in};
 ghost use Rattle.verb_core.specs.Store.{is_known};
 ghost use Rattle.verb_bytes.specs.declared.journal.JournalRecord.TheVariants.{Operator};
 ghost use Rattle.verb_bytes.specs.Places.{IsTextAt};
@@ -12,18 +12,17 @@ ghost use Rattle.store_kept.specs.Kept.{performed};
 ghost use Rattle.mail_desk.specs.Entering.{CanEnter};
 ghost use Rattle.desk_journal.specs.Lasting.{lasting};
 ghost use Rattle.desk_journal.specs.Sealing.{IsRecordOf, Seals};
-ghost use Rattle.desk_journal.specs.Stored.{MarkedBefore, TextsNoted, NotesTexts};
-ghost use Rattle.desk_journal.specs.Submitting.{ActWants, ActsNone, IsActOutcomeOf, SealsBytes};
+ghost use Rattle.desk_journal.specs.Stored.{MarkedBefore, TextsNoted};
+ghost use Rattle.desk_journal.specs.Submitting.{ActWants, ActsNone, IsActOutcomeOf};
 ghost use Rattle.desk_journal.specs.declared.fault.ActFault.TheVariants as act_faults;
 
 use crate::ActFault;
 use crate::on_disk::Journal;
-use crate::seal::seal_ready;
+use crate::seal::{Found, seal_ready};
 use crate::spelling::act_bytes;
-use mail_desk::Ready;
 use seal_log::SealFault;
 use std::alloc::Global;
-use undo_base::{END_OF_NUMBERS, LAST_NUMBER, NoMemory, Text};
+use undo_base::{END_OF_NUMBERS, LAST_NUMBER, NoMemory};
 use undo_outside::Disk;
 use verb_bytes::act_text_from;
 use verb_core::{Act, Deed, Item, Shown};
@@ -56,49 +55,13 @@ fn next_number(desk: &mail_desk::Desk) -> Result<u32, ActFault>
     }
 }
 
-/// An act's item that can be entered, the bytes of its record, and how far behind their front its text lies.
-#[derive(Drop)]
-struct FoundAct {
-    ready: Ready,
-    bytes: Text,
-    from: u32,
-}
-
-/// Makes all room for an act's item, beside the bytes of its record.
-fn with_room(
-    alloc: Global,
-    desk: &mut mail_desk::Desk,
-    item: Item,
-    bytes: Text,
-    from: u32,
-) -> Result<FoundAct, NoMemory>
-    requires formed { IsWellFormed desk.old.kept.house item }
-    requires number { item.number ≡ desk.old.kept.next }
-    requires left { desk.old.kept.next < END_OF_NUMBERS }
-    ensures kept { desk.new.kept ≡ desk.old.kept }
-    ensures notes { desk.new.notes ≡ desk.old.notes }
-    ensures marks { desk.new.marks ≡ desk.old.marks }
-    ensures item { IfOk result (λ found. found.ready.item ≡ item) }
-    ensures bytes { IfOk result (λ found. found.bytes ≡ bytes) }
-    ensures from { IfOk result (λ found. found.from ≡ from) }
-    ensures ready { IfOk result (λ found. CanEnter found.ready desk.new) }
-{
-    match desk.ready_item(alloc, item) {
-        Ok(ready) => Ok(FoundAct { ready, bytes, from }),
-        Err(NoMemory) => {
-            drop(bytes);
-            Err(NoMemory)
-        }
-    }
-}
-
 /// Makes all room for an act, and the bytes of its record.
 fn ready_act(
     alloc: Global,
     desk: &mut mail_desk::Desk,
     at: u64,
     act: Act,
-) -> Result<FoundAct, NoMemory>
+) -> Result<Found, NoMemory>
     requires known { IsTrue (list_all (is_known desk.old.kept.house) (users_in (Acts act))) }
     requires left { desk.old.kept.next < END_OF_NUMBERS }
     ensures kept { desk.new.kept ≡ desk.old.kept }
@@ -111,13 +74,15 @@ fn ready_act(
 {
     let number = desk.next();
     let from = act_text_from(&act);
-    match act_bytes(alloc, number, at, &act) {
-        Ok(bytes) => with_room(alloc, desk, item_of(number, at, act), bytes, from),
+    let bytes = match act_bytes(alloc, number, at, &act) {
+        Ok(bytes) => bytes,
         Err(NoMemory) => {
             drop(act);
-            Err(NoMemory)
+            return Err(NoMemory);
         }
-    }
+    };
+    let ready = desk.ready_item(alloc, item_of(number, at, act))?;
+    Ok(Found { ready, bytes, from })
 }
 
 /// Why an act was not done.
@@ -129,32 +94,6 @@ fn fault_of(fault: SealFault) -> ActFault
         SealFault::Disk => ActFault::Disk,
         SealFault::NoMemory => ActFault::NoMemory,
         SealFault::Closed => ActFault::Closed,
-    }
-}
-
-/// Seals what was found, and enters it.
-fn seal_found<D: Disk>(
-    alloc: Global,
-    journal: &mut Journal<D>,
-    desk: &mut mail_desk::Desk,
-    found: FoundAct,
-) -> Result<(), SealFault>
-    requires open { journal.old.closed ≡ false }
-    requires ready { CanEnter found.ready desk.old }
-    requires lies { (text : List ℕ) → text_in found.ready.item.deed ≡ Some text → IsTextAt found.bytes found.from text }
-    ensures sealed { SealsBytes D.told found.bytes journal.old journal.new result }
-    ensures performed { OnOk result (desk.new.kept ≡ performed desk.old.kept found.ready.item) }
-    ensures noted { OnOk result (NotesTexts (journal.old.gate + 5 + length found.bytes) (record { gate = journal.old.gate; length = length found.bytes }) found.bytes desk.old desk.new) }
-    ensures marks { OnOk result (desk.new.marks ≡ desk.old.marks) }
-    ensures same { OnErr result (desk.new ≡ desk.old) }
-{
-    let FoundAct { ready, bytes, from } = found;
-    match seal_ready(alloc, journal, desk, &bytes, from, ready) {
-        Ok(item) => {
-            drop(item);
-            Ok(())
-        }
-        Err(fault) => Err(fault),
     }
 }
 
@@ -184,8 +123,11 @@ fn act_numbered<D: Disk>(
 {
     desk.stands();
     match ready_act(alloc, desk, at, act) {
-        Ok(found) => match seal_found(alloc, journal, desk, found) {
-            Ok(()) => Ok(()),
+        Ok(found) => match seal_ready(alloc, journal, desk, found) {
+            Ok(item) => {
+                drop(item);
+                Ok(())
+            }
             Err(fault) => Err(fault_of(fault)),
         },
         Err(NoMemory) => Err(ActFault::NoMemory),

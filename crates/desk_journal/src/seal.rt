@@ -18,29 +18,35 @@ use undo_base::Text;
 use undo_outside::Disk;
 use verb_core::Item;
 
-/// Seals the record of an item for which all is ready, and then enters the item, and gives it back. Its text lies so far behind
-/// the front of the record.
+/// An item that can be entered, the bytes of its record, and how far behind their front its text lies.
+#[derive(Drop)]
+pub struct Found {
+    pub ready: Ready,
+    pub bytes: Text,
+    pub from: u32,
+}
+
+/// Seals the record of an item for which all is ready, and then enters the item, and gives it back.
 pub fn seal_ready<D: Disk>(
     alloc: Global,
     journal: &mut Journal<D>,
     desk: &mut Desk,
-    bytes: &Text,
-    from: u32,
-    ready: Ready,
+    found: Found,
 ) -> Result<Item, SealFault>
     requires open { journal.old.closed ≡ false }
-    requires ready { CanEnter ready desk.old }
-    requires lies { (text : List ℕ) → text_in ready.item.deed ≡ Some text → IsTextAt bytes.now from text }
-    ensures sealed { SealsBytes D.told bytes.now journal.old journal.new result }
-    ensures item { IfOk result (λ item. item ≡ ready.item) }
-    ensures performed { OnOk result (desk.new.kept ≡ performed desk.old.kept ready.item) }
-    ensures noted { OnOk result (NotesTexts (journal.old.gate + 5 + length bytes.now) (record { gate = journal.old.gate; length = length bytes.now }) bytes.now desk.old desk.new) }
+    requires ready { CanEnter found.ready desk.old }
+    requires lies { (text : List ℕ) → text_in found.ready.item.deed ≡ Some text → IsTextAt found.bytes found.from text }
+    ensures sealed { SealsBytes D.told found.bytes journal.old journal.new result }
+    ensures item { IfOk result (λ item. item ≡ found.ready.item) }
+    ensures performed { OnOk result (desk.new.kept ≡ performed desk.old.kept found.ready.item) }
+    ensures noted { OnOk result (NotesTexts (journal.old.gate + 5 + length found.bytes) (record { gate = journal.old.gate; length = length found.bytes }) found.bytes desk.old desk.new) }
     ensures marks { OnOk result (desk.new.marks ≡ desk.old.marks) }
     ensures same { OnErr result (desk.new ≡ desk.old) }
 {
     desk.stands();
-    let place = journal.next_place(bytes);
-    match journal.seal(alloc, bytes) {
+    let Found { ready, bytes, from } = found;
+    let place = journal.next_place(&bytes);
+    match journal.seal(alloc, &bytes) {
         Ok(()) => Ok(desk.enter(ready, place, from)),
         Err(fault) => {
             drop(ready);

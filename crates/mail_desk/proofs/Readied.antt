@@ -2,7 +2,6 @@
 use Rattle.std.proofs.Common.{◌≡◌, ℕ, ◌<◌, ◌≤◌, ◌==◌, Bool, true, false, List, [], ◌∷◌, ◌++◌, Option, None, Some, Result, Ok, Err, IfOk, OnOk, length, nat_lt, option_map, refl, ap, sym, subst, ◌∙◌, arith}
 use Rattle.std.proofs.lemmas.Bool.Decides.{nat_tests}
 use Rattle.undo_base.specs.declared.keys.User.{User}
-use Rattle.undo_base.specs.declared.memory.NoMemory.{NoMemory as MemoryWant}
 use Rattle.verb_core.specs.declared.ask.Ask.{Ask}
 use Rattle.verb_core.specs.declared.ask.Refused.{Refused}
 use Rattle.verb_core.specs.declared.ask.Refused.TheVariants.{NameShape, Fixed, NoBox, HasInferiors, TryCreate, Exists, Gone, TooMany, TooLarge, BoxesFull, UidWide, Numbers}
@@ -11,24 +10,17 @@ use Rattle.verb_core.specs.declared.item.Deed.{Deed}
 use Rattle.verb_core.specs.declared.item.Deed.TheVariants.{Deliver, Append, Fetch, Store, Copy, List as Names, Status, Select, Expunge, Close, Create, Rename, Delete, Act as Acts, Notice}
 use Rattle.verb_core.specs.Deeds.{with_text}
 use Rattle.verb_core.specs.declared.item.Item.{Item}
-use Rattle.verb_core.specs.declared.item.Resolved.{Resolved}
-use Rattle.verb_core.specs.declared.item.Shown.{Shown}
-use Rattle.verb_core.specs.Aims.{Sought, sought}
 use Rattle.verb_core.specs.Items.{IsWellFormed}
 use Rattle.verb_core.specs.Live.{asked_item, answered, asks_fixed, first_of, if_so, is_gone, deletes_superior, is_misshapen, is_missing, is_there, is_uid_wide, key_count, live, named, new_names, or_item, overfills, targets, too_large}
 use Rattle.verb_core.specs.Stamps.{stamps_after}
-use Rattle.verb_core.specs.Step.{step, step_with}
-use Rattle.verb_core.specs.Store.{MailStore, IsValid}
-use Rattle.stored_items.specs.Stored.{looks_at_text, step_text, stored, stored_deed}
-use Rattle.box_store.specs.declared.effect.Effect.{Effect}
-use Rattle.box_store.specs.Effects.{IsEffect, IsReady, applied}
-use Rattle.box_store.specs.Kept.{sought_in}
-use Rattle.mail_desk.specs.declared.ready.Lying.{Lying}
+use Rattle.verb_core.specs.Step.{step}
+use Rattle.verb_core.specs.Store.{MailStore}
+use Rattle.stored_items.specs.Stored.{looks_at_text}
+use Rattle.mail_desk.specs.declared.ready.Made.{Made}
 use Rattle.mail_desk.specs.declared.ready.Ready.{Ready}
 use Rattle.store_kept.specs.Kept.{store_of}
 use Rattle.mail_desk.specs.Entering.{CanEnter, ready_of}
 use Rattle.mail_desk.specs.Held.{Held}
-use Rattle.mail_desk.specs.Stamping.{HasSpare, restamped}
 
 -- ---- what is asked for
 
@@ -56,70 +48,39 @@ asked_is s number at by ask deep j e =
     ∷ if_so (is_uid_wide s by ask (asked_item s number at by ask)) UidWide
     ∷ []) (number == 4194304) (Numbers number) (answered s (asked_item s number at by ask)) j e
 
-pub number_asked : (r : Result Item Refused) (s : MailStore) (number at : ℕ) (by : Option User) (ask : Ask) (deep : Bool) → IfOk r (λ item. live s number at by ask deep ≡ Ok item) → IfOk r (λ item. item.number ≡ number)
-number_asked (Ok item) s number at by ask deep is = ap (λ (i : Item). i.number) (asked_is s number at by ask deep item is).0
-number_asked (Err why) s number at by ask deep is = tt
+-- so it has the next number, and one was left
+pub number_due : (s : MailStore) (number at : ℕ) (by : Option User) (ask : Ask) (deep : Bool) (j : Item) → live s number at by ask deep ≡ Ok j → j.number ≡ number
+number_due s number at by ask deep j due = ap (λ (i : Item). i.number) (asked_is s number at by ask deep j due).0
 
-pub number_left : (r : Result Item Refused) (s : MailStore) (number at : ℕ) (by : Option User) (ask : Ask) (deep : Bool) → number ≤ 4194304 → IfOk r (λ item. live s number at by ask deep ≡ Ok item) → OnOk r (number < 4194304)
-number_left (Ok item) s number at by ask deep most is = let no = (asked_is s number at by ask deep item is).1 in grind (arith, nat_tests)
-number_left (Err why) s number at by ask deep most is = tt
+pub number_left : (s : MailStore) (number at : ℕ) (by : Option User) (ask : Ask) (deep : Bool) (j : Item) → number ≤ 4194304 → live s number at by ask deep ≡ Ok j → number < 4194304
+number_left s number at by ask deep j most due = let no = (asked_is s number at by ask deep j due).1 in grind (arith, nat_tests)
 
 -- ---- what is ready
-
--- what an effect does where it was made, of an item that is kept without its text
-pub does_here : {W : Type 0} (r : Result Effect W) (what : Resolved) (s : MailStore) (i : Item) (text : List ℕ) → IsValid s → what.item ≡ stored i → sought_in what ≡ sought s text i.by (stored_deed i.deed)
-    → step_text s (stored i) text ≡ step_text s i text → IfOk r (λ e. IsEffect e what s) → IfOk r (λ e. applied e s ≡ (step_text s i text).0)
-does_here (Ok e) what s i text valid is to alike made =
-    made.elsewhere s refl valid (λ q there. refl) (λ _. refl)
-    ∙ ap (λ (t : Sought). (step_with t s what.item).0) to
-    ∙ ap (λ (j : Item). (step_with (sought s text i.by (stored_deed i.deed)) s j).0) is
-    ∙ ap (λ (after : MailStore × Shown). after.0) alike
-does_here (Err why) what s i text valid is to alike made = tt
-
--- and what it shows there
-pub shows_here : {W : Type 0} (r : Result Effect W) (what : Resolved) (s : MailStore) (i : Item) (text : List ℕ) → what.item ≡ stored i → sought_in what ≡ sought s text i.by (stored_deed i.deed)
-    → step_text s (stored i) text ≡ step_text s i text → IfOk r (λ e. IsEffect e what s) → IfOk r (λ e. e.shown ≡ (step_text s i text).1)
-shows_here (Ok e) what s i text is to alike made =
-    made.shown
-    ∙ ap (λ (t : Sought). (step_with t s what.item).1) to
-    ∙ ap (λ (j : Item). (step_with (sought s text i.by (stored_deed i.deed)) s j).1) is
-    ∙ ap (λ (after : MailStore × Shown). after.1) alike
-shows_here (Err why) what s i text is to alike made = tt
 
 -- what holds of what a value was made of
 pub through : {A B W : Type 0} (r : Result A W) (f : A → B) (e : Result B W) → IfOk r (λ x. e ≡ Ok (f x)) → (P : B → Type 0) → IfOk e P → IfOk r (λ x. P (f x))
 through (Ok x) f e is P holds = subst (λ q. IfOk q P) is holds
 through (Err why) f e is P holds = tt
 
--- and of a part that is one
-pub part_is : {A B W : Type 0} (r : Result A W) (f : A → B) (b : B) → IfOk r (λ x. f x ≡ b) → (P : B → Type 0) → P b → IfOk r (λ x. P (f x))
-part_is (Ok x) f b is P holds = subst P (sym is) holds
-part_is (Err why) f b is P holds = tt
+-- an item can be entered with its text where it can as it is stored
+pub entered_as : (item stored : Item) (made : Made) (held : Held) → stored ≡ item → CanEnter (ready_of stored made) held → CanEnter (record { item = item; stored = stored; made = made }) held
+entered_as item stored made held is can = subst (λ (i : Item). CanEnter (record { item = i; stored = stored; made = made }) held) is can
 
-pub can_enter : (r : Result Ready MemoryWant) (held : Held) (item : Item) → IsWellFormed held.kept.house item → item.number ≡ held.kept.next → held.kept.next < 4194304
-    → IfOk r (λ ready. ready.item ≡ item)
-    → IfOk r (λ ready. ready.stored ≡ item)
-    → IfOk r (λ ready. applied ready.effect (store_of held.kept) ≡ (step (store_of held.kept) item).0)
-    → IfOk r (λ ready. ready.effect.shown ≡ (step (store_of held.kept) item).1)
-    → IfOk r (λ ready. restamped ready.stamps held.kept.stamps ≡ stamps_after item.number (step (store_of held.kept) item).0.boxes held.kept.stamps)
-    → IfOk r (λ ready. HasSpare ready.stamps (length held.kept.stamps))
-    → IfOk r (λ ready. IsReady ready.effect held.room.store)
-    → OnOk r (0 < held.room.items) → OnOk r (0 < held.room.notes)
-    → IfOk r (λ ready. CanEnter ready held)
-can_enter (Ok ready) held item formed number left is stored does shows stamps spare effect items notes = record {
-  formed = subst (λ (i : Item). IsWellFormed held.kept.house i) (sym is) formed;
-  stored = stored ∙ sym is;
-  number = ap (λ (i : Item). i.number) is ∙ number;
-  left = left;
-  does = does ∙ ap (λ (i : Item). (step (store_of held.kept) i).0) (sym is);
-  shows = shows ∙ ap (λ (i : Item). (step (store_of held.kept) i).1) (sym is);
-  stamps = stamps ∙ ap (λ (i : Item). stamps_after i.number (step (store_of held.kept) i).0.boxes held.kept.stamps) (sym is);
-  spare = spare;
-  effect = effect;
-  items = items;
-  notes = notes;
+-- and the other way
+pub entered_stored : (ready : Ready) (held : Held) → CanEnter ready held → CanEnter (ready_of ready.stored ready.made) held
+entered_stored ready held can = record {
+  formed = subst (λ (i : Item). IsWellFormed held.kept.house i) (sym can.stored) can.formed;
+  stored = refl;
+  number = ap (λ (i : Item). i.number) can.stored ∙ can.number;
+  left = can.left;
+  does = can.does ∙ ap (λ (i : Item). (step (store_of held.kept) i).0) (sym can.stored);
+  shows = can.shows ∙ ap (λ (i : Item). (step (store_of held.kept) i).1) (sym can.stored);
+  spare = can.spare;
+  stamps = can.stamps ∙ ap (λ (i : Item). stamps_after i.number (step (store_of held.kept) i).0.boxes held.kept.stamps) (sym can.stored);
+  effect = can.effect;
+  items = can.items;
+  notes = can.notes;
 }
-can_enter (Err why) held item formed number left is stored does shows stamps spare effect items notes = tt
 
 -- ---- an item whose text lies elsewhere
 
@@ -145,15 +106,3 @@ looks_alike s (Acts (DropFilter id)) text = refl
 looks_alike s (Acts (Remove u mailbox key)) text = refl
 looks_alike s (Acts (Give u mailbox own)) text = refl
 looks_alike s (Notice user own) text = refl
-
-pub lying_enters : (r : Result Lying MemoryWant) (held : Held) (item : Item) → IsWellFormed held.kept.house item → item.number ≡ held.kept.next → held.kept.next < 4194304
-    → IfOk r (λ lying. lying.stored ≡ item)
-    → IfOk r (λ lying. applied lying.effect (store_of held.kept) ≡ (step (store_of held.kept) item).0)
-    → IfOk r (λ lying. lying.effect.shown ≡ (step (store_of held.kept) item).1)
-    → IfOk r (λ lying. restamped lying.stamps held.kept.stamps ≡ stamps_after item.number (step (store_of held.kept) item).0.boxes held.kept.stamps)
-    → IfOk r (λ lying. HasSpare lying.stamps (length held.kept.stamps))
-    → IfOk r (λ lying. IsReady lying.effect held.room.store)
-    → OnOk r (0 < held.room.items) → OnOk r (0 < held.room.notes)
-    → IfOk r (λ lying. CanEnter (ready_of lying) held)
-lying_enters (Ok lying) held item formed number left stored does shows stamps spare effect items notes = can_enter (Ok (ready_of lying)) held item formed number left stored stored does shows stamps spare effect items notes
-lying_enters (Err why) held item formed number left stored does shows stamps spare effect items notes = tt

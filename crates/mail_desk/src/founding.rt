@@ -21,7 +21,7 @@ ghost use Rattle.mail_desk.specs.Timeline.{NotesText, body_of};
 use crate::Desk;
 use crate::noting::{note_stored, note_text};
 use crate::numbered::Numbered;
-use crate::ready::{apply_alone, effect_lying, effect_of, make_rooms};
+use crate::ready::make_room;
 use box_store::{Effect, Store, rows_make_valid_stores};
 use paradox::Report;
 use seal_log::Place;
@@ -31,6 +31,7 @@ use std::cmp::Ordering;
 use std::marker::Model;
 use store_kept::{Base, BaseTexts, Past, Reports};
 use stored_items::StoredItem;
+use stored_items::laws::{stored_items_do_alike, texts_are_not_looked_at};
 use undo_base::{Name, NoMemory, PastText, Text};
 use verb_core::laws::{mail_is_kept, steps_keep_validity};
 use verb_core::{Body, BoxId, Conf, Entry, House, Item, Mailbox, Rows, Stamps};
@@ -249,33 +250,10 @@ fn made_room(
     ensures does { IfOk result (λ effect. applied effect store.old.store ≡ (step store.old.store item.now).0) }
     ensures ready { IfOk result (λ effect. IsReady effect store.new) }
 {
-    make_rooms(timeline, shelf)?;
+    stored_items_do_alike();
     let stored = StoredItem::copy_of(alloc, item)?;
-    effect_of(alloc, store, item, &stored)
-}
-
-/// The same of an item whose text lies elsewhere, and is not looked at.
-fn made_room_lying(
-    alloc: Global,
-    store: &mut Store,
-    timeline: &mut Numbered,
-    shelf: &mut Shelf,
-    item: &StoredItem,
-) -> Result<Effect, NoMemory>
-    requires valid { IsValid store.old.store }
-    requires formed { IsWellFormed store.old.store.house item.now }
-    requires unlooked { looks_at_text store.old.store item.now.deed ≡ false }
-    ensures store { store.new.store ≡ store.old.store }
-    ensures timeline { timeline.new.items ≡ timeline.old.items }
-    ensures shelf { shelf.new.notes ≡ shelf.old.notes }
-    ensures marks { shelf.new.marks ≡ shelf.old.marks }
-    ensures items { OnOk result (0 < timeline.new.room) }
-    ensures notes { OnOk result (0 < shelf.new.room) }
-    ensures does { IfOk result (λ effect. applied effect store.old.store ≡ (step store.old.store item.now).0) }
-    ensures ready { IfOk result (λ effect. IsReady effect store.new) }
-{
-    make_rooms(timeline, shelf)?;
-    effect_lying(alloc, store, item)
+    let text = item.deed.text_bytes();
+    make_room(alloc, store, timeline, shelf, &stored, text)
 }
 
 /// What a base has but for its texts: the house, the configuration at first, and the parts of its record.
@@ -494,7 +472,7 @@ impl Founding {
             &item,
         ) {
             Ok(effect) => {
-                drop(apply_alone(&mut self.store, effect));
+                drop(self.store.apply_alone(effect));
                 note_text(&mut self.shelf, &item, place, from);
                 self.timeline.put(StoredItem::of(alloc, item));
                 Ok(())
@@ -533,16 +511,18 @@ impl Founding {
     {
         rows_make_valid_stores();
         steps_keep_validity();
+        texts_are_not_looked_at();
         let stored = StoredItem::lying(alloc, item, text);
-        match made_room_lying(
+        match make_room(
             alloc,
             &mut self.store,
             &mut self.timeline,
             &mut self.shelf,
             &stored,
+            &[],
         ) {
             Ok(effect) => {
-                drop(apply_alone(&mut self.store, effect));
+                drop(self.store.apply_alone(effect));
                 note_stored(&mut self.shelf, &stored, place, from);
                 self.timeline.put(stored);
                 Ok(())

@@ -12,7 +12,7 @@ ghost use Rattle.verb_core.specs.declared.mailbox.Mailbox.{Mailbox as TheMailbox
 ghost use Rattle.verb_core.specs.Boxes.{box_of, has_row};
 ghost use Rattle.verb_core.specs.Names.{is_fixed as is_always_there, superiors as superiors_of, with_superiors};
 ghost use Rattle.verb_core.specs.Stamps.{stamps_after};
-ghost use Rattle.verb_core.specs.Step.{step};
+ghost use Rattle.verb_core.specs.Step.{step_text};
 ghost use Rattle.verb_core.specs.Store.{IsValid};
 ghost use Rattle.box_store.specs.Plans.{move_of, moves_of};
 ghost use Rattle.mail_desk.specs.Stamping.{HasSpare, all_changed, changes_by, changes_left, changes_named, changes_renamed, restamped};
@@ -283,7 +283,7 @@ fn with_spare(
     }
 }
 
-/// What an item changes of the stamps, where it changes the names of mailboxes.
+/// What an item changes of the stamps, where it changes the names of mailboxes: the same with whatever text.
 pub(crate) fn stamp_changes(
     alloc: Global,
     store: &Store,
@@ -292,7 +292,7 @@ pub(crate) fn stamp_changes(
 ) -> Result<Option<StampChanges>, NoMemory>
     requires valid { IsValid store.now.store }
     requires named { map (λ (r : TheBoxId × ℕ). r.0) stamps.now ≡ map (λ (r : TheBoxId × TheMailbox). r.0) store.now.store.boxes }
-    ensures changes { IfOk result (λ changes. restamped changes stamps.now ≡ stamps_after item.now.number (step store.now.store item.now).0.boxes stamps.now) }
+    ensures changes { (text : List ℕ) → IfOk result (λ changes. restamped changes stamps.now ≡ stamps_after item.now.number (step_text store.now.store item.now text).0.boxes stamps.now) }
     ensures spare { IfOk result (λ changes. HasSpare changes (length stamps.now)) }
 {
     stamps_name_mailboxes();

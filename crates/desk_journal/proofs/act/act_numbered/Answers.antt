@@ -11,53 +11,53 @@ use Rattle.desk_journal.proofs.Sealed.{item_sealed, marked_on, marked_same, note
 use Rattle.desk_journal.proofs.act.act_numbered.Goals as goal
 
 pub fault_of-requires : goal.fault_of-requires
-fault_of-requires g c = λ is. c.in-Err-seal_found.ensures.sealed.never (ap Err is)
+fault_of-requires g c = λ is. c.in-Err-seal_ready.ensures.sealed.never (ap Err is)
 
-pub returns-in-Ok-seal_found-clause-ok : goal.returns-in-Ok-seal_found-clause-ok
-returns-in-Ok-seal_found-clause-ok g c =
+pub returns-in-Ok-seal_ready-clause-ok : goal.returns-in-Ok-seal_ready-clause-ok
+returns-in-Ok-seal_ready-clause-ok g c =
     let what = Operator c.args.desk.now.kept.next c.args.at c.args.act in
     let found = c.in-Ok.found in
     let mid = c.ready_act.new.desk in
-    let new = c.seal_found.new in
-    let sealed = c.in-Ok-seal_found.ensures.sealed in
+    let new = c.seal_ready.new in
+    let sealed = c.in-Ok-seal_ready.ensures.sealed in
     seals_from g.D.Disk.told (what ∷ []) [] c.args.desk.now mid c.args.journal.now (lasting new.desk new.journal) c.in-Ok.ensures.kept c.in-Ok.ensures.notes c.in-Ok.ensures.marks
     (item_sealed g.D.Disk.told what found.bytes found.ready.item mid new.desk c.args.journal.now new.journal
     (subst HasUndone (sym c.in-Ok.ensures.kept) c.stands.ensures.undone) c.in-Ok.ensures.ready.number (ap (λ (i : Item). i.rev) c.in-Ok.ensures.item)
     (record_as what found.bytes c.args.desk.now.kept mid.kept (act_item c.args.desk.now.kept.next c.args.at c.args.act) found.ready.item c.in-Ok.ensures.kept c.in-Ok.ensures.item c.in-Ok.ensures.record)
-    sealed.ok c.requires.open sealed.still_open c.in-Ok-seal_found.ensures.performed c.in-Ok-seal_found.ensures.marks c.in-Ok-seal_found.ensures.noted)
+    sealed.ok c.requires.open sealed.still_open c.in-Ok-seal_ready.ensures.performed c.in-Ok-seal_ready.ensures.marks c.in-Ok-seal_ready.ensures.noted)
 
-pub returns-in-Ok-seal_found-clause-noted : goal.returns-in-Ok-seal_found-clause-noted
-returns-in-Ok-seal_found-clause-noted g c noted =
+pub returns-in-Ok-seal_ready-clause-noted : goal.returns-in-Ok-seal_ready-clause-noted
+returns-in-Ok-seal_ready-clause-noted g c noted =
     let gate = c.args.journal.now.gate in
-    noted_on gate c.seal_found.new.journal.gate c.in-Ok.found.bytes c.ready_act.new.desk c.seal_found.new.desk c.in-Ok-seal_found.ensures.sealed.next c.in-Ok-seal_found.ensures.noted
+    noted_on gate c.seal_ready.new.journal.gate c.in-Ok.found.bytes c.ready_act.new.desk c.seal_ready.new.desk c.in-Ok-seal_ready.ensures.sealed.next c.in-Ok-seal_ready.ensures.noted
     (noted_same gate gate c.args.desk.now c.ready_act.new.desk refl c.in-Ok.ensures.kept c.in-Ok.ensures.notes noted)
 
-pub returns-in-Err-seal_found-clause-noted : goal.returns-in-Err-seal_found-clause-noted
-returns-in-Err-seal_found-clause-noted g c =
-    noted_same c.args.journal.now.gate c.seal_found.new.journal.gate c.args.desk.now c.seal_found.new.desk c.in-Err-seal_found.ensures.sealed.err
-    (ap (λ (h : Held). h.kept) c.in-Err-seal_found.ensures.same ∙ c.in-Ok.ensures.kept) (ap (λ (h : Held). h.notes) c.in-Err-seal_found.ensures.same ∙ c.in-Ok.ensures.notes)
+pub returns-in-Err-seal_ready-clause-noted : goal.returns-in-Err-seal_ready-clause-noted
+returns-in-Err-seal_ready-clause-noted g c =
+    noted_same c.args.journal.now.gate c.seal_ready.new.journal.gate c.args.desk.now c.seal_ready.new.desk c.in-Err-seal_ready.ensures.sealed.err
+    (ap (λ (h : Held). h.kept) c.in-Err-seal_ready.ensures.same ∙ c.in-Ok.ensures.kept) (ap (λ (h : Held). h.notes) c.in-Err-seal_ready.ensures.same ∙ c.in-Ok.ensures.notes)
 
-pub returns-in-Ok-seal_found-clause-marked : goal.returns-in-Ok-seal_found-clause-marked
-returns-in-Ok-seal_found-clause-marked g c marked =
-    marked_on c.args.journal.now.gate c.seal_found.new.journal.gate c.in-Ok.found.bytes c.args.desk.now c.seal_found.new.desk c.in-Ok-seal_found.ensures.sealed.next (c.in-Ok-seal_found.ensures.marks ∙ c.in-Ok.ensures.marks) marked
+pub returns-in-Ok-seal_ready-clause-marked : goal.returns-in-Ok-seal_ready-clause-marked
+returns-in-Ok-seal_ready-clause-marked g c marked =
+    marked_on c.args.journal.now.gate c.seal_ready.new.journal.gate c.in-Ok.found.bytes c.args.desk.now c.seal_ready.new.desk c.in-Ok-seal_ready.ensures.sealed.next (c.in-Ok-seal_ready.ensures.marks ∙ c.in-Ok.ensures.marks) marked
 
-pub returns-in-Err-seal_found-clause-marked : goal.returns-in-Err-seal_found-clause-marked
-returns-in-Err-seal_found-clause-marked g c =
-    marked_same c.args.journal.now.gate c.seal_found.new.journal.gate c.args.desk.now c.seal_found.new.desk c.in-Err-seal_found.ensures.sealed.err
-    (ap (λ (h : Held). h.marks) c.in-Err-seal_found.ensures.same ∙ c.in-Ok.ensures.marks)
+pub returns-in-Err-seal_ready-clause-marked : goal.returns-in-Err-seal_ready-clause-marked
+returns-in-Err-seal_ready-clause-marked g c =
+    marked_same c.args.journal.now.gate c.seal_ready.new.journal.gate c.args.desk.now c.seal_ready.new.desk c.in-Err-seal_ready.ensures.sealed.err
+    (ap (λ (h : Held). h.marks) c.in-Err-seal_ready.ensures.same ∙ c.in-Ok.ensures.marks)
 
-pub returns-in-Err-seal_found-clause-err : goal.returns-in-Err-seal_found-clause-err
-returns-in-Err-seal_found-clause-err g c =
+pub returns-in-Err-seal_ready-clause-err : goal.returns-in-Err-seal_ready-clause-err
+returns-in-Err-seal_ready-clause-err g c =
     let what = Operator c.args.desk.now.kept.next c.args.at c.args.act in
     let found = c.in-Ok.found in
     let mid = c.ready_act.new.desk in
-    let new = c.seal_found.new in
+    let new = c.seal_ready.new in
     acts_none g.D.Disk.told c.args.at c.args.act c.args.desk.now mid c.args.journal.now (lasting new.desk new.journal)
-    c.in-Err-seal_found.fault c.fault_of.result c.in-Ok.ensures.kept c.in-Ok.ensures.notes c.in-Ok.ensures.marks c.requires.open c.requires.left c.fault_of.ensures
-    (not_sealed g.D.Disk.told what found.bytes (performed mid.kept found.ready.item) mid new.desk c.args.journal.now new.journal c.in-Err-seal_found.fault
+    c.in-Err-seal_ready.fault c.fault_of.result c.in-Ok.ensures.kept c.in-Ok.ensures.notes c.in-Ok.ensures.marks c.requires.open c.requires.left c.fault_of.ensures
+    (not_sealed g.D.Disk.told what found.bytes (performed mid.kept found.ready.item) mid new.desk c.args.journal.now new.journal c.in-Err-seal_ready.fault
     (record_as what found.bytes c.args.desk.now.kept mid.kept (act_item c.args.desk.now.kept.next c.args.at c.args.act) found.ready.item c.in-Ok.ensures.kept c.in-Ok.ensures.item c.in-Ok.ensures.record)
-    (ap (λ (h : Held). h.kept) c.in-Err-seal_found.ensures.same) (ap (λ (h : Held). h.notes) c.in-Err-seal_found.ensures.same) (ap (λ (h : Held). h.marks) c.in-Err-seal_found.ensures.same) c.requires.open c.in-Err-seal_found.ensures.sealed)
+    (ap (λ (h : Held). h.kept) c.in-Err-seal_ready.ensures.same) (ap (λ (h : Held). h.notes) c.in-Err-seal_ready.ensures.same) (ap (λ (h : Held). h.marks) c.in-Err-seal_ready.ensures.same) c.requires.open c.in-Err-seal_ready.ensures.sealed)
 
-pub returns-in-Err-seal_found-clause-wants : goal.returns-in-Err-seal_found-clause-wants
-returns-in-Err-seal_found-clause-wants g c =
-    act_wants g.D.Disk.told c.args.journal.now.disk c.seal_found.new.journal.disk c.in-Err-seal_found.fault c.fault_of.result c.fault_of.ensures c.in-Err-seal_found.ensures.sealed.wants
+pub returns-in-Err-seal_ready-clause-wants : goal.returns-in-Err-seal_ready-clause-wants
+returns-in-Err-seal_ready-clause-wants g c =
+    act_wants g.D.Disk.told c.args.journal.now.disk c.seal_ready.new.journal.disk c.in-Err-seal_ready.fault c.fault_of.result c.fault_of.ensures c.in-Err-seal_ready.ensures.sealed.wants

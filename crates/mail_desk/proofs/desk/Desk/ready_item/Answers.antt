@@ -1,67 +1,22 @@
-use Rattle.std.proofs.Common.{◌≡◌, ◌<◌, ◌++◌, List, IfOk, ap, subst, sym, ◌∙◌, ◌-◌, length, option_map, vec_len, vec_capacity}
-use Rattle.verb_core.specs.declared.conf.House.{House}
+use Rattle.std.proofs.Common.{◌≡◌, [], unwrap_or, ap, subst, sym, ◌∙◌}
 use Rattle.verb_core.specs.declared.item.Item.{Item}
-use Rattle.verb_core.specs.declared.mailbox.Body.{Body}
-use Rattle.verb_core.specs.Items.{IsWellFormed}
-use Rattle.shelf.specs.declared.note.Note.{Note}
-use Rattle.shelf.specs.Notes.{size_of}
-use Rattle.mail_desk.specs.Desk.{IsDesk}
+use Rattle.verb_core.specs.Items.{IsWellFormed, text_in}
 use Rattle.mail_desk.specs.Entering.{CanEnter}
-use Rattle.mail_desk.specs.Held.{Held, marks_kept}
-use Rattle.store_kept.specs.Kept.{Kept, kept_from}
-use Rattle.store_kept.specs.Texts.{items_behind, text_with}
-use Rattle.mail_desk.proofs.Readied.{can_enter}
+use Rattle.mail_desk.specs.Held.{Held}
+use Rattle.store_kept.specs.Kept.{store_of}
+use Rattle.mail_desk.proofs.Readied.{entered_as}
 use Rattle.mail_desk.proofs.desk.Desk.ready_item.Goals as goal
 
 pub make_ready-requires-clause-formed : goal.make_ready-requires-clause-formed
-make_ready-requires-clause-formed c =
-    let house = c.self.invariant.desk.house_is ∙ ap (λ (h : Held). h.kept.house) c.self.view_is in
-    subst (λ (h : House). IsWellFormed h c.args.item) (sym house) c.requires.formed
+make_ready-requires-clause-formed c = subst (λ (i : Item). IsWellFormed c.args.self.now.kept.house i) (sym c.in_ok-stored.ensures) c.requires.formed
 
-pub invariant_of-self : goal.invariant_of-self
-invariant_of-self c =
-    let d = c.self.inside in
-    let made = c.make_ready.ensures in
-    let same : ◌≡◌ {A = Kept} (kept_from d.base c.make_ready.new.store.store c.make_ready.new.timeline.items d.stamps d.next d.reports.items (marks_kept d.since d.taken c.make_ready.new.shelf.marks) d.deep d.undone) (kept_from d.base d.store.store d.timeline.items d.stamps d.next d.reports.items (marks_kept d.since d.taken d.shelf.marks) d.deep d.undone) =
-    λ j. kept_from d.base (made.store j) (made.timeline j) d.stamps d.next d.reports.items (marks_kept d.since d.taken (made.marks j)) d.deep d.undone in
-    record {
-      desk = subst (λ (k : Kept). IsDesk k) (sym same) c.self.invariant.desk;
-      sizes = λ body. ap (λ (n : List (Body × Note)). size_of n body) made.shelf ∙ c.self.invariant.sizes body ∙ ap (λ (t : List Item). option_map length (text_with d.base.texts (t ++ items_behind d.undone) body)) (sym made.timeline);
-    }
+pub make_ready-requires-clause-number : goal.make_ready-requires-clause-number
+make_ready-requires-clause-number c = ap (λ (i : Item). i.number) c.in_ok-stored.ensures ∙ c.requires.number
 
-pub returns-clause-kept : goal.returns-clause-kept
-returns-clause-kept c =
-    let d = c.self.inside in
-    let made = c.make_ready.ensures in
-    let same : ◌≡◌ {A = Kept} (kept_from d.base c.make_ready.new.store.store c.make_ready.new.timeline.items d.stamps d.next d.reports.items (marks_kept d.since d.taken c.make_ready.new.shelf.marks) d.deep d.undone) (kept_from d.base d.store.store d.timeline.items d.stamps d.next d.reports.items (marks_kept d.since d.taken d.shelf.marks) d.deep d.undone) =
-    λ j. kept_from d.base (made.store j) (made.timeline j) d.stamps d.next d.reports.items (marks_kept d.since d.taken (made.marks j)) d.deep d.undone in
-    same ∙ ap (λ (h : Held). h.kept) c.self.view_is
+pub make_ready-requires-clause-alike : goal.make_ready-requires-clause-alike
+make_ready-requires-clause-alike c =
+    c.stored_items_do_alike.ensures.with_own (store_of c.args.self.now.kept) c.in_ok-stored.stored c.text_bytes.result.now
+    (c.text_bytes.ensures ∙ ap (λ (i : Item). unwrap_or (text_in i.deed) []) (sym c.in_ok-stored.ensures))
 
 pub returns-clause-ready : goal.returns-clause-ready
-returns-clause-ready c =
-    let d = c.self.inside in
-    let new = c.make_ready.new in
-    let made = c.make_ready.ensures in
-    let kept : Kept = kept_from d.base d.store.store d.timeline.items d.stamps d.next d.reports.items (marks_kept d.since d.taken d.shelf.marks) d.deep d.undone in
-    let held : Held = record { kept = kept; notes = new.shelf.notes; marks = new.shelf.marks; room = record { store = new.store; items = new.timeline.room; notes = new.shelf.room; reports = vec_capacity d.reports - vec_len d.reports; marks = new.shelf.keeps } } in
-    let same : ◌≡◌ {A = Kept} kept (kept_from d.base new.store.store new.timeline.items d.stamps d.next d.reports.items (marks_kept d.since d.taken new.shelf.marks) d.deep d.undone) =
-    sym (λ j. kept_from d.base (made.store j) (made.timeline j) d.stamps d.next d.reports.items (marks_kept d.since d.taken (made.marks j)) d.deep d.undone) in
-    subst (λ (k : Kept). IfOk c.make_ready.result (λ ready. CanEnter ready (record {
-      kept = k;
-      notes = new.shelf.notes;
-      marks = new.shelf.marks;
-      room = record { store = new.store; items = new.timeline.room; notes = new.shelf.room; reports = vec_capacity d.reports - vec_len d.reports; marks = new.shelf.keeps };
-    }))) same
-    (can_enter c.make_ready.result held c.args.item
-    (subst (λ (h : Held). IsWellFormed h.kept.house c.args.item) (sym c.self.view_is) c.requires.formed)
-    (subst (λ (h : Held). c.args.item.number ≡ h.kept.next) (sym c.self.view_is) c.requires.number)
-    (subst (λ (h : Held). h.kept.next < 4194304) (sym c.self.view_is) c.requires.left)
-    made.item
-    made.stored
-    made.does
-    made.shows
-    made.stamps
-    made.spare
-    made.effect
-    made.items
-    made.notes)
+returns-clause-ready c = entered_as c.args.item c.in_ok-stored.stored c.in_ok-made.made c.make_ready.new.self c.in_ok-stored.ensures c.in_ok-made.ensures.ready

@@ -32,7 +32,7 @@ invariant_of-self c =
     let d = c.self.inside in
     let f : Founded = the_view d in
     let item = c.args.item in
-    founding_item f d.past.texts d.numbers.items d.store.store c.apply_alone.new.store.store d.shelf.marks c.note_text.new.shelf.marks item c.args.place c.args.from c.note_text.new.shelf.notes c.put.new.self.items is
+    founding_item f d.past.texts d.numbers.items d.store.store c.apply_alone.new.self.store d.shelf.marks c.note_text.new.shelf.marks item c.args.place c.args.from c.note_text.new.shelf.notes c.put.new.self.items is
     (subst (λ (g : Founded). IsWellFormed g.house item) (sym c.self.view_is) c.requires.formed)
     (subst (λ (g : Founded). can_be_kept g.based item ≡ true) (sym c.self.view_is) c.requires.may)
     (c.put.ensures ∙ (λ j. c.in-Ok.ensures.timeline j ++ c.of.ensures j ∷ []))

@@ -12,13 +12,13 @@ use Rattle.mail_desk.proofs.BodyTexts.{sizes_on}
 use Rattle.mail_desk.proofs.Going.{desk_goes_on}
 use Rattle.mail_desk.proofs.Stampings.{rise_alike}
 use Rattle.mail_desk.proofs.Timelines.{lower, others_below}
-use Rattle.mail_desk.proofs.desk.Desk.put_lying.Goals as goal
+use Rattle.mail_desk.proofs.desk.Desk.put.Goals as goal
 
 pub push-requires-clause-higher : goal.push-requires-clause-higher
 push-requires-clause-higher c =
     let d = c.self.inside in
-    let can = subst (λ (h : Held). CanEnter (ready_of c.args.ready) h) (sym c.self.view_is) c.requires in
-    subst (λ (i : Item). AllByRecursion (λ (j : Item). j.number < i.number) d.timeline.items) (sym can.stored) (lower d.next d.timeline.items c.args.ready.stored c.self.invariant.desk.below can.number)
+    let can = subst (λ (h : Held). CanEnter (ready_of c.args.stored c.args.made) h) (sym c.self.view_is) c.requires in
+    subst (λ (i : Item). AllByRecursion (λ (j : Item). j.number < i.number) d.timeline.items) (sym can.stored) (lower d.next d.timeline.items c.args.stored c.self.invariant.desk.below can.number)
 
 pub change_stamps-requires-clause-rising : goal.change_stamps-requires-clause-rising
 change_stamps-requires-clause-rising c =
@@ -26,19 +26,19 @@ change_stamps-requires-clause-rising c =
     rise_alike d.stamps d.store.store.boxes c.self.invariant.desk.stamps c.self.invariant.desk.valid.rising
 
 pub change_stamps-requires-clause-spare : goal.change_stamps-requires-clause-spare
-change_stamps-requires-clause-spare c = let can = subst (λ (h : Held). CanEnter (ready_of c.args.ready) h) (sym c.self.view_is) c.requires in can.spare
+change_stamps-requires-clause-spare c = let can = subst (λ (h : Held). CanEnter (ready_of c.args.stored c.args.made) h) (sym c.self.view_is) c.requires in can.spare
 
 pub invariant_of-self : goal.invariant_of-self
 invariant_of-self c =
     let d = c.self.inside in
-    let item = c.args.ready.stored in
+    let item = c.args.stored in
     let desk = c.self.invariant.desk in
     let kept : Kept = kept_from d.base d.store.store d.timeline.items d.stamps d.next d.reports.items (marks_kept d.since d.taken d.shelf.marks) d.deep d.undone in
-    let can = subst (λ (h : Held). CanEnter (ready_of c.args.ready) h) (sym c.self.view_is) c.requires in
+    let can = subst (λ (h : Held). CanEnter (ready_of c.args.stored c.args.made) h) (sym c.self.view_is) c.requires in
     let pushed : c.push.new.self.items ≡ d.timeline.items ++ item ∷ [] = c.push.ensures ∙ ap (λ (i : Item). d.timeline.items ++ i ∷ []) can.stored in
-    let stored = c.apply_alone.ensures.store ∙ can.does in
+    let stored = c.apply_alone-shown.ensures.store ∙ can.does in
     let stamped = c.change_stamps.ensures ∙ can.stamps in
-    let grown : performed kept item ≡ kept_from d.base c.apply_alone.new.store.store c.push.new.self.items c.change_stamps.new.stamps (d.next + 1) d.reports.items (marks_kept (d.since + 1) d.taken c.note_stored.new.shelf.marks) d.deep d.undone =
+    let grown : performed kept item ≡ kept_from d.base c.apply_alone-shown.new.self.store c.push.new.self.items c.change_stamps.new.stamps (d.next + 1) d.reports.items (marks_kept (d.since + 1) d.taken c.note_stored.new.shelf.marks) d.deep d.undone =
     sym (λ j. kept_from d.base (stored j) (pushed j) (stamped j) (d.next + 1) d.reports.items (marks_kept (d.since + 1) d.taken (c.note_stored.ensures.marks j)) d.deep d.undone) in
     record {
       desk = subst (λ (k : Kept). IsDesk k) grown (desk_goes_on c.mail_is_kept.ensures c.steps_keep_validity.ensures.step c.stamps_name_mailboxes.ensures.after c.what_can_come_back_stays.ensures.items kept item desk can.formed can.number can.left);
@@ -49,12 +49,12 @@ invariant_of-self c =
 pub returns-clause-kept : goal.returns-clause-kept
 returns-clause-kept c =
     let d = c.self.inside in
-    let item = c.args.ready.stored in
+    let item = c.args.stored in
     let kept : Kept = kept_from d.base d.store.store d.timeline.items d.stamps d.next d.reports.items (marks_kept d.since d.taken d.shelf.marks) d.deep d.undone in
-    let can = subst (λ (h : Held). CanEnter (ready_of c.args.ready) h) (sym c.self.view_is) c.requires in
+    let can = subst (λ (h : Held). CanEnter (ready_of c.args.stored c.args.made) h) (sym c.self.view_is) c.requires in
     let pushed : c.push.new.self.items ≡ d.timeline.items ++ item ∷ [] = c.push.ensures ∙ ap (λ (i : Item). d.timeline.items ++ i ∷ []) can.stored in
-    let stored = c.apply_alone.ensures.store ∙ can.does in
+    let stored = c.apply_alone-shown.ensures.store ∙ can.does in
     let stamped = c.change_stamps.ensures ∙ can.stamps in
-    let grown : ◌≡◌ {A = Kept} (kept_from d.base c.apply_alone.new.store.store c.push.new.self.items c.change_stamps.new.stamps (d.next + 1) d.reports.items (marks_kept (d.since + 1) d.taken c.note_stored.new.shelf.marks) d.deep d.undone) (performed kept item) =
+    let grown : ◌≡◌ {A = Kept} (kept_from d.base c.apply_alone-shown.new.self.store c.push.new.self.items c.change_stamps.new.stamps (d.next + 1) d.reports.items (marks_kept (d.since + 1) d.taken c.note_stored.new.shelf.marks) d.deep d.undone) (performed kept item) =
     λ j. kept_from d.base (stored j) (pushed j) (stamped j) (d.next + 1) d.reports.items (marks_kept (d.since + 1) d.taken (c.note_stored.ensures.marks j)) d.deep d.undone in
     grown ∙ ap (λ (h : Held). performed h.kept item) c.self.view_is

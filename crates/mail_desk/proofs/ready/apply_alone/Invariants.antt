@@ -1,4 +1,0 @@
-use Rattle.mail_desk.proofs.ready.apply_alone.Given as goal
-
-abbrev pub ghosts-apply_over : goal.ghosts-apply_over
-ghosts-apply_over a = record { name = a.blank.name; parts = a.blank.parts }
