@@ -3,7 +3,7 @@ ghost use Rattle.std.specs.Prelude.{◌≡◌, ◌<◌, ℕ, List, [], ◌∷◌
 ghost use Rattle.std.specs.List.{list_all};
 ghost use Rattle.verb_core.specs.Deeds.{act_item};
 ghost use Rattle.verb_core.specs.declared.item.Deed.TheVariants.{Act as Acts};
-ghost use Rattle.verb_core.specs.Items.{text_in, users_in};
+ghost use Rattle.verb_core.specs.Items.{IsWellFormed, text_in, users_in};
 ghost use Rattle.verb_core.specs.Store.{is_known};
 ghost use Rattle.verb_bytes.specs.declared.journal.JournalRecord.TheVariants.{Operator};
 ghost use Rattle.verb_bytes.specs.Places.{IsTextAt};
@@ -22,7 +22,7 @@ use crate::seal::{Found, seal_ready};
 use crate::spelling::act_bytes;
 use seal_log::SealFault;
 use std::alloc::Global;
-use undo_base::{END_OF_NUMBERS, LAST_NUMBER, NoMemory};
+use undo_base::{END_OF_NUMBERS, LAST_NUMBER, NoMemory, Text};
 use undo_outside::Disk;
 use verb_bytes::act_text_from;
 use verb_core::{Act, Deed, Item, Shown};
@@ -55,6 +55,34 @@ fn next_number(desk: &mail_desk::Desk) -> Result<u32, ActFault>
     }
 }
 
+/// Makes all room for an act's item, beside the bytes of its record.
+fn with_room(
+    alloc: Global,
+    desk: &mut mail_desk::Desk,
+    item: Item,
+    bytes: Text,
+    from: u32,
+) -> Result<Found, NoMemory>
+    requires formed { IsWellFormed desk.old.kept.house item }
+    requires number { item.number ≡ desk.old.kept.next }
+    requires left { desk.old.kept.next < END_OF_NUMBERS }
+    ensures kept { desk.new.kept ≡ desk.old.kept }
+    ensures notes { desk.new.notes ≡ desk.old.notes }
+    ensures marks { desk.new.marks ≡ desk.old.marks }
+    ensures item { IfOk result (λ found. found.ready.item ≡ item) }
+    ensures bytes { IfOk result (λ found. found.bytes ≡ bytes) }
+    ensures from { IfOk result (λ found. found.from ≡ from) }
+    ensures ready { IfOk result (λ found. CanEnter found.ready desk.new) }
+{
+    match desk.ready_item(alloc, item) {
+        Ok(ready) => Ok(Found { ready, bytes, from }),
+        Err(NoMemory) => {
+            drop(bytes);
+            Err(NoMemory)
+        }
+    }
+}
+
 /// Makes all room for an act, and the bytes of its record.
 fn ready_act(
     alloc: Global,
@@ -74,15 +102,13 @@ fn ready_act(
 {
     let number = desk.next();
     let from = act_text_from(&act);
-    let bytes = match act_bytes(alloc, number, at, &act) {
-        Ok(bytes) => bytes,
+    match act_bytes(alloc, number, at, &act) {
+        Ok(bytes) => with_room(alloc, desk, item_of(number, at, act), bytes, from),
         Err(NoMemory) => {
             drop(act);
-            return Err(NoMemory);
+            Err(NoMemory)
         }
-    };
-    let ready = desk.ready_item(alloc, item_of(number, at, act))?;
-    Ok(Found { ready, bytes, from })
+    }
 }
 
 /// Why an act was not done.

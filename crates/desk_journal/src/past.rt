@@ -32,6 +32,36 @@ impl<D: Disk> Model for Past<D> {
     ghost invariant = { λ p. p.end < (D.told p.disk).size };
 }
 
+fn seal_payload<D: Disk>(
+    alloc: Global,
+    log: &mut Log,
+    disk: &mut D,
+    payload: &Text,
+) -> Result<(), SealFault>
+    requires end { last_gate log.old < (D.told disk.old).size }
+    requires open { log.old.closed ≡ false }
+    ensures ok { OnOk result (SealsPayloads (payload.now ∷ []) [] (D.told disk.old) (D.told disk.new) (last_gate log.old) (last_gate log.new)) }
+    ensures failed { IsErrOf result SealFault.Disk
+        → SealsPayloads [] (payload.now ∷ []) (D.told disk.old) (D.told disk.new) (last_gate log.old) (last_gate log.new) }
+    ensures no_memory { IsErrOf result SealFault.NoMemory
+        → SealsPayloads [] [] (D.told disk.old) (D.told disk.new) (last_gate log.old) (last_gate log.new) }
+    ensures reads { (D.told disk.new).failed_reads ≡ (D.told disk.old).failed_reads }
+    ensures wants { SealWants D.told disk.old disk.new result }
+    ensures not_closed { IsErrOf result SealFault.Closed → ⊥ }
+    ensures still_open { OnOk result (log.new.closed ≡ false) }
+    ensures open_again { IsErrOf result SealFault.NoMemory → log.new.closed ≡ false }
+    ensures closes { IsErrOf result SealFault.Disk → log.new.closed ≡ true }
+    ensures next { OnOk result (last_gate log.new ≡ last_gate log.old + 5 + length payload.now) }
+    ensures err { OnErr result (last_gate log.new ≡ last_gate log.old) }
+    ensures held { (payloads : List (List ℕ)) → IsSettled (D.told disk.old) (last_gate log.old) payloads → Holds (D.told disk.new) payloads }
+    ensures within { last_gate log.new < (D.told disk.new).size }
+{
+    match log.seal(alloc, disk, payload.bytes()) {
+        Ok(_) => Ok(()),
+        Err(fault) => Err(fault),
+    }
+}
+
 /// The number in the four bytes from a place on.
 fn length_at<D: Disk>(disk: &mut D, place: u64) -> Result<u32, ReadFault>
     requires { place + 4 ≤ (D.told disk.old).size }
@@ -162,13 +192,9 @@ impl<D: Disk> Past<D> {
         ensures err { OnErr result (self.new.end ≡ self.old.end) }
         ensures held { (payloads : List (List ℕ)) → IsSettled (D.told self.old.disk) self.old.end payloads → Holds (D.told self.new.disk) payloads }
     {
-        match log.seal(alloc, &mut self.disk, payload.bytes()) {
-            Ok(_) => {
-                self.end = log.last_gate();
-                Ok(())
-            }
-            Err(fault) => Err(fault),
-        }
+        let sealed = seal_payload(alloc, log, &mut self.disk, payload);
+        self.end = log.last_gate();
+        sealed
     }
 
     /// The disk as it is.

@@ -8,23 +8,37 @@ ghost use Rattle.seal_log.specs.Causes.{FindsMemory};
 ghost use Rattle.verb_bytes.specs.declared.journal.JournalRecord.TheVariants.{Verb};
 ghost use Rattle.verb_core.specs.Items.{text_in};
 ghost use Rattle.verb_bytes.specs.Places.{IsTextAt};
+ghost use Rattle.verb_bytes.specs.Spelling.{record_bytes};
 ghost use Rattle.store_kept.specs.Kept.{performed, store_of};
 ghost use Rattle.mail_desk.specs.Desk.{submitted};
 ghost use Rattle.mail_desk.specs.Entering.{CanEnter};
 ghost use Rattle.desk_journal.specs.Lasting.{lasting};
+ghost use Rattle.desk_journal.specs.Records.{is_spelled};
 ghost use Rattle.desk_journal.specs.Sealing.{IsRecordOf, Seals};
 ghost use Rattle.desk_journal.specs.Stored.{MarkedBefore, TextsNoted};
 ghost use Rattle.desk_journal.specs.Submitting.{IsOutcomeOf, RefusesNone, SubmitWants, SubmitsNone, WritesNone};
 
 use crate::on_disk::Journal;
 use crate::seal::{Found, seal_ready};
-use crate::spelling::written;
+use crate::spelling::item_bytes;
 use seal_log::SealFault;
 use std::alloc::Global;
-use undo_base::{NoMemory, User};
+use undo_base::{NoMemory, Text, User};
 use undo_outside::Disk;
-use verb_bytes::{item_text_from, spell_item};
+use verb_bytes::item_text_from;
 use verb_core::{Ask, Item, Refused, SubmitFault};
+
+/// The bytes of an item's record, and how far behind their front its text lies.
+fn placed_bytes(alloc: Global, item: &Item) -> Result<(Text, u32), NoMemory>
+    ensures bytes { IfOk result (λ parts. parts.0 ≡ record_bytes (Verb item.now)) }
+    ensures lies { IfOk result (λ parts. (text : List ℕ) → text_in item.now.deed ≡ Some text → IsTextAt parts.0 parts.1 text) }
+    ensures spelled { OnOk result (IsTrue (is_spelled (Verb item.now))) }
+{
+    match item_bytes(alloc, item) {
+        Ok(bytes) => Ok((bytes, item_text_from(item))),
+        Err(NoMemory) => Err(NoMemory),
+    }
+}
 
 /// Finds what is asked for at a moment, and makes all room for it and the bytes of its record.
 fn find(
@@ -46,10 +60,8 @@ fn find(
     ensures refused { IfErr result (λ refused. IsRefusal refused (live (store_of desk.old.kept) desk.old.kept.next at by ask desk.old.kept.deep)) }
 {
     let ready = desk.ready(alloc, at, by, ask)?;
-    let item = ready.item();
-    let from = item_text_from(item);
-    match written(spell_item(alloc, item)) {
-        Ok(bytes) => Ok(Found { ready, bytes, from }),
+    match placed_bytes(alloc, ready.item()) {
+        Ok((bytes, from)) => Ok(Found { ready, bytes, from }),
         Err(NoMemory) => {
             drop(ready);
             Err(Refused::NoMemory)
