@@ -4,19 +4,15 @@
 //! where it decodes, that count is the timeline's length and its mailboxes make a store. Whether it holds the store of the state
 //! before it is compared when it is read: a true one is marked, and a cycle can begin with it. Another stands, sets the count of
 //! items back as every snapshot does, and is passed over. So no claim needs the premise that the records of a journal are true.
-ghost use Rattle.std.specs.Prelude.{◌≡◌, ◌==◌, ◌≤◌, ◌<◌, ◌+◌, [], List, ℕ, Some, true, false, bytes_eq, is_none, length, IsTrue, IfOk, OnOk, IsErrOf};
+ghost use Rattle.std.specs.Prelude.{◌≡◌, ◌==◌, ◌≤◌, ◌<◌, ◌+◌, List, ℕ, true, false, bytes_eq, is_none, length, IsTrue, IfOk, OnOk, IsErrOf};
 ghost use Rattle.std.specs.List.{list_all};
-ghost use Rattle.verb_core.specs.Deeds.{is_notice};
 ghost use Rattle.verb_core.specs.Items.{text_in, users_in};
 ghost use Rattle.verb_core.specs.Store.{is_known as knows};
 ghost use Rattle.verb_bytes.specs.declared.journal.JournalRecord.TheVariants.{Cycle, Operator, Snapshot, Upgrade, Verb, Withdraw};
-ghost use Rattle.verb_bytes.specs.Holes.{act_with};
-ghost use Rattle.verb_bytes.specs.Places.{IsTextAt};
 ghost use Rattle.verb_bytes.specs.Spelling.{HasSpelling, record_bytes};
 ghost use Rattle.seal_log.specs.Causes.{ReadAtCause};
 ghost use Rattle.seal_log.specs.Journal.{LiesAt};
-ghost use Rattle.stored_items.specs.Stored.{whole};
-ghost use Rattle.store_kept.specs.Kept.{report_of, store_of};
+ghost use Rattle.store_kept.specs.Kept.{report_of};
 ghost use Rattle.store_kept.specs.Texts.{items_asked};
 ghost use Rattle.shelf.specs.Marks.{marks_at_or_before};
 ghost use Rattle.repair_desk.specs.Repairs.{are_known as acts_name_known};
@@ -26,12 +22,10 @@ ghost use Rattle.mail_desk.specs.Timeline.{NotesText, SizesOf, body_of};
 ghost use Rattle.time_desk.specs.Cycling.{CanBeUndone, IsFit, after_rewound, asked_then};
 ghost use Rattle.desk_journal.specs.Records.{after_cycle_record, after_due, after_record, after_withdraw_record, can_follow as follows, can_keep as keeps, can_rewind as rewinds, is_formed as formed, is_true as tells_all, snapshot_record};
 ghost use Rattle.time_desk.specs.Auditing.{Judges};
-ghost use Rattle.time_desk.specs.Heads.{IsHead, headed};
 ghost use Rattle.time_desk.specs.Standing.{AsksAlike, Enters, IsFormed, Performs, has_users as uses, is_actor, kept_as, marked_as};
 ghost use Rattle.desk_journal.specs.Stored.{AreNoted, KeepsMarks, MarksLie, NotesCycle, NotesNone, NotesTexts, Renotes, TextsHeld, TextsStored};
 ghost use Rattle.desk_journal.specs.Telling.{IsPastRead};
 
-use crate::heads::HeadOf;
 use crate::redo::{cycle_again, key_in, remade, withdrawal_again};
 use box_store::makes_store;
 use desk_journal::{Past, fresh_of, item_of, no_fresh};
@@ -40,7 +34,7 @@ use mail_desk::{Desk, Fresh};
 use seal_log::{Place, ReadFault};
 use std::alloc::Global;
 use store_digest::snapshot_text;
-use undo_base::{LAST_MOMENT, LAST_NUMBER, Name, NoMemory, PastText, Text, User};
+use undo_base::{LAST_MOMENT, LAST_NUMBER, Name, NoMemory, Text, User};
 use undo_outside::Disk;
 use verb_bytes::laws::{
     one_spelling, spelled_cycles_have_moments, spelled_items_are_formed,
@@ -64,11 +58,9 @@ fn act_knows(house: &House, act: &Act) -> bool
 {
     match act {
         Act::SetAlias { users, .. } => are_known(house, users.as_slice()),
-        Act::DropAlias { .. } => true,
-        Act::SetFilter(_) => true,
-        Act::DropFilter { .. } => true,
         Act::Remove { user, .. } => house.knows(*user),
         Act::Give { user, .. } => house.knows(*user),
+        _ => true,
     }
 }
 
@@ -156,37 +148,6 @@ fn enter(
     }
 }
 
-/// A text that is not read. It lies so far behind the front of the record at a place.
-#[derive(Drop)]
-struct Lying {
-    text: PastText,
-    place: Place,
-    from: u32,
-}
-
-/// Performs an item whose text lies elsewhere and is not looked at, where it can follow, and notes where the text lies.
-fn enter_lying(alloc: Global, desk: &mut Desk, item: Item, lying: Lying) -> Result<bool, NoMemory>
-    requires bare { IsFormed item }
-    requires formed { IsFormed (whole item lying.text) }
-    requires empty { text_in item.deed ≡ Some [] }
-    requires plain { is_notice item.deed ≡ false }
-    requires unfiltered { (store_of desk.old.kept).conf.filters ≡ [] }
-    ensures entered { IfOk result (λ stood. Enters desk.old.kept (whole item lying.text) stood desk.new.kept) }
-    ensures noted { IfOk result (λ stood. stood ≡ true → NotesText (text_in (whole item lying.text).deed) (body_of (whole item lying.text)) lying.place lying.from desk.old.notes desk.new.notes) }
-    ensures marks { OnOk result (desk.new.marks ≡ desk.old.marks) }
-{
-    if !can_follow(desk, &item) {
-        drop(item);
-        drop(lying);
-        return Ok(false);
-    }
-    let Lying { text, place, from } = lying;
-    match desk.enter_lying(alloc, item, text, place, from) {
-        Ok(()) => Ok(true),
-        Err(NoMemory) => Err(NoMemory),
-    }
-}
-
 /// How many bytes the payload at a place has: four bytes say it.
 pub(crate) fn length_at(place: Place) -> u32
     ensures { result ≡ place.length }
@@ -237,89 +198,6 @@ fn enter_act(
     desk.stands();
     let from = act_text_from(&act);
     enter(alloc, desk, item_of(number, at, act), place, from)
-}
-
-/// The same of the item of a user's record whose text is not read and not looked at.
-fn enter_verb_lying(
-    alloc: Global,
-    desk: &mut Desk,
-    end: u64,
-    item: Item,
-    lying: Lying,
-) -> Result<bool, NoMemory>
-    requires bare { HasSpelling (Verb item) }
-    requires spelled { HasSpelling (Verb (whole item lying.text)) }
-    requires empty { text_in item.deed ≡ Some [] }
-    requires plain { is_notice item.deed ≡ false }
-    requires lies { IsTextAt (record_bytes (Verb (whole item lying.text))) lying.from lying.text }
-    requires place { lying.place.gate + 5 + lying.place.length ≤ end }
-    requires long { lying.place.length ≡ length (record_bytes (Verb (whole item lying.text))) }
-    requires unfiltered { (store_of desk.old.kept).conf.filters ≡ [] }
-    ensures entered { IfOk result (λ stood. Performs (after_record desk.old.kept (Verb (whole item lying.text))) stood desk.new.kept) }
-    ensures noted { IfOk result (λ stood. stood ≡ true → NotesTexts end lying.place (record_bytes (Verb (whole item lying.text))) desk.old desk.new) }
-    ensures marked { IfOk result (λ stood. stood ≡ true → KeepsMarks end lying.place (record_bytes (Verb (whole item lying.text))) desk.old desk.new) }
-{
-    spelled_items_are_formed();
-    desk.stands();
-    enter_lying(alloc, desk, item, lying)
-}
-
-/// The same of an operator's act.
-fn enter_act_lying(
-    alloc: Global,
-    desk: &mut Desk,
-    end: u64,
-    number: u32,
-    at: u64,
-    act: Act,
-    lying: Lying,
-) -> Result<bool, NoMemory>
-    requires bare { HasSpelling (Operator number at act) }
-    requires spelled { HasSpelling (Operator number at (act_with lying.text act)) }
-    requires empty { text_in (Deed.Act act) ≡ Some [] }
-    requires lies { IsTextAt (record_bytes (Operator number at (act_with lying.text act))) lying.from lying.text }
-    requires place { lying.place.gate + 5 + lying.place.length ≤ end }
-    requires long { lying.place.length ≡ length (record_bytes (Operator number at (act_with lying.text act))) }
-    requires unfiltered { (store_of desk.old.kept).conf.filters ≡ [] }
-    ensures entered { IfOk result (λ stood. Performs (after_record desk.old.kept (Operator number at (act_with lying.text act))) stood desk.new.kept) }
-    ensures noted { IfOk result (λ stood. stood ≡ true → NotesTexts end lying.place (record_bytes (Operator number at (act_with lying.text act))) desk.old desk.new) }
-    ensures marked { IfOk result (λ stood. stood ≡ true → KeepsMarks end lying.place (record_bytes (Operator number at (act_with lying.text act))) desk.old desk.new) }
-{
-    spelled_items_are_formed();
-    desk.stands();
-    enter_lying(alloc, desk, item_of(number, at, act), lying)
-}
-
-/// Performs the record of a user's item or of an operator's act, of which the text is not read and not looked at, where it can stand,
-/// and answers whether it can. No other record with a text of its own can stand behind a front.
-pub(crate) fn follow_head(
-    alloc: Global,
-    desk: &mut Desk,
-    end: u64,
-    head: HeadOf,
-    place: Place,
-) -> Result<bool, NoMemory>
-    requires head { IsHead head }
-    requires place { place.gate + 5 + place.length ≤ end }
-    requires long { place.length ≡ length (record_bytes (headed head)) }
-    requires unfiltered { (store_of desk.old.kept).conf.filters ≡ [] }
-    ensures entered { IfOk result (λ stood. Performs (after_record desk.old.kept (headed head)) stood desk.new.kept) }
-    ensures noted { IfOk result (λ stood. stood ≡ true → NotesTexts end place (record_bytes (headed head)) desk.old desk.new) }
-    ensures marked { IfOk result (λ stood. stood ≡ true → KeepsMarks end place (record_bytes (headed head)) desk.old desk.new) }
-{
-    let HeadOf { what, text, from } = head;
-    let lying = Lying { text, place, from };
-    match what {
-        JournalRecord::Verb(item) => enter_verb_lying(alloc, desk, end, item, lying),
-        JournalRecord::Operator { number, at, act } => {
-            enter_act_lying(alloc, desk, end, number, at, act, lying)
-        }
-        other => {
-            drop(other);
-            drop(lying);
-            Ok(false)
-        }
-    }
 }
 
 // ---- a cycle

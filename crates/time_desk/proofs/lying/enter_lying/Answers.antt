@@ -4,7 +4,7 @@ use Rattle.stored_items.specs.Stored.{whole}
 use Rattle.desk_journal.specs.Records.{can_follow}
 use Rattle.time_desk.proofs.Headed.{follows_whole, unlooked}
 use Rattle.time_desk.proofs.Soundness.{follows_formed}
-use Rattle.time_desk.proofs.standing.enter_lying.Goals as goal
+use Rattle.time_desk.proofs.lying.enter_lying.Goals as goal
 
 -- the item with its text can follow
 pub enter_lying-requires-clause-formed : goal.enter_lying-requires-clause-formed

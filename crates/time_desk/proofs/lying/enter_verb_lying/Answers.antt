@@ -4,7 +4,7 @@ use Rattle.verb_bytes.specs.Spelling.{record_bytes}
 use Rattle.stored_items.specs.Stored.{whole}
 use Rattle.time_desk.proofs.Headed.{text_there}
 use Rattle.time_desk.proofs.Holding.{entered_marks, entered_record}
-use Rattle.time_desk.proofs.standing.enter_verb_lying.Goals as goal
+use Rattle.time_desk.proofs.lying.enter_verb_lying.Goals as goal
 
 pub returns-clause-noted : goal.returns-clause-noted
 returns-clause-noted g =

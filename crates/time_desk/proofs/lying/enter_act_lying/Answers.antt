@@ -10,7 +10,7 @@ use Rattle.mail_desk.specs.Timeline.{NotesText, body_of}
 use Rattle.time_desk.specs.Standing.{Enters}
 use Rattle.time_desk.proofs.Headed.{act_whole, plain_act, text_there}
 use Rattle.time_desk.proofs.Holding.{entered_marks, entered_record}
-use Rattle.time_desk.proofs.standing.enter_act_lying.Goals as goal
+use Rattle.time_desk.proofs.lying.enter_act_lying.Goals as goal
 
 -- the item that was entered is that of the act with its text
 same : (g : goal.After-enter_lying) → whole g.item_of.result g.args.lying.text ≡ act_item g.args.number g.args.at (act_with g.args.lying.text g.args.act)
