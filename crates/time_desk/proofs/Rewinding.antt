@@ -45,7 +45,7 @@ use Rattle.withdraw.specs.declared.undone.UndoneBehind.{UndoneBehind}
 use Rattle.withdraw.specs.Coming.{CanComeBack}
 use Rattle.mail_cycle.specs.Comparing.{broken_by, compared_from, reached_from, reworked_from, timeline_by, timeline_from, told_by}
 use Rattle.mail_cycle.specs.Leaving.{GoesOnAt, IsMade, IsMadeFrom, Leaves, LeavesAt, items_left}
-use Rattle.mail_cycle.specs.Refusing.{IsRefusalOf}
+use Rattle.mail_cycle.specs.Refusing.{IsRefusalOf, refused_by}
 use Rattle.mail_cycle.specs.Tasks.{GoesWith, IsCycle, IsTask, Task}
 use Rattle.mail_cycle.proofs.Made.{made_whole}
 use Rattle.replay_crew.specs.Hearing.{CountsTextReads}
@@ -53,7 +53,7 @@ use Rattle.verb_core.specs.declared.bodies.BodiesFault.{BodiesFault}
 use Rattle.verb_core.specs.declared.bodies.BodiesFault.TheVariants as bodies_faults
 use Rattle.time_desk.specs.declared.fault.CycleFault.{CycleFault}
 use Rattle.time_desk.specs.declared.fault.CycleFault.TheVariants as cycle_faults
-use Rattle.time_desk.specs.Cycling.{CanBeUndone, CanRework, Cycles, CyclesAs, CyclesBy, CyclesNone, IsCycleOutcomeOf, IsCycled, IsFit, IsTold, Redoes, RedoesCause, RedoesCycle, RenotesAs, Reworks, RunsOutOfMemoryBy, Tries, TriesNone, after_rewound, asked_then, most_begun, most_reworked, most_tried, refused_by}
+use Rattle.time_desk.specs.Cycling.{CanBeUndone, CanRework, Cycles, CyclesAs, CyclesBy, CyclesNone, IsCycleOutcomeOf, IsCycled, IsFit, IsTold, Redoes, RedoesCause, RedoesCycle, RenotesAs, Reworks, RunsOutOfMemoryBy, Tries, TriesNone, after_rewound, asked_then, most_begun, most_reworked, most_tried}
 use Rattle.time_desk.specs.Planning.{BodiesCause}
 use Rattle.time_desk.specs.Replaying.{DeliversOn, ToldOr, cycle_reads, delivered_told, repair_reads, some_marked, some_stored}
 use Rattle.std.specs.Option.{option_map_or}
@@ -295,15 +295,9 @@ reworks_none told held t old mid steps result fault why is fault_is cause marked
       steps = tt;
     })
 
--- a repair was not worked out for one of two causes
-pub by_cause : (fault : BodiesFault) (refused : CycleRefused) (P : CycleRefused → Type 0) → refused ≡ refused_by fault → (fault ≡ bodies_faults.Failed → P refusals.Disk) → (fault ≡ bodies_faults.NoMemory → P refusals.NoMemory) → P refused
-by_cause bodies_faults.Failed refused P is failed wanting = subst P (sym is) (failed refl)
-by_cause bodies_faults.NoMemory refused P is failed wanting = subst P (sym is) (wanting refl)
-
--- a fault by another name
-pub reworks_as : {D : Type 0} (told : D → DiskTold) (held : Held) (t : Task) (old new : PastTold D) (before after : ℕ) (fault why : BodiesFault) → fault ≡ why → Reworks told held t old new before after (Err fault)
-    → Reworks told held t old new before after (Err why)
-reworks_as told held t old new before after fault why same done = subst (λ (f : BodiesFault). Reworks told held t old new before after (Err f)) same done
+-- a refusal by another name
+pub refused_alike : (P : Result Rewound CycleRefused → Type 0) (result : Result Rewound CycleRefused) (refused why : CycleRefused) → result ≡ Err refused → refused ≡ why → P (Err why) → P result
+refused_alike P result refused why is same p = subst P (sym is) (subst (λ (r : CycleRefused). P (Err r)) (sym same) p)
 
 -- why there is none, told of what is kept but for the snapshots
 pub refused_as : (kept : Kept) (ask : CycleAsk) (due : Due) (refused : CycleRefused) → IsRefusalOf (unmarked kept) ask due refused → IsRefusalOf kept ask due refused
@@ -395,7 +389,7 @@ module _ {D : Type 0} (told : D → DiskTold) (held : Held) (at : ℕ) (ask : Cy
       omega (arith, all, repaired_few held.kept at ask is.place (within_point held.kept.timeline ask.point is.place is.is_place))
 
   -- a read failed, or no memory was found
-  pub cycle_failed : (t : Task) (old new : PastTold D) (same : Type 0) (before after : ℕ) → IsCycle (unmarked held.kept) at ask t → Reworks told held t old new before after (Err bodies_faults.Failed)
+  cycle_failed : (t : Task) (old new : PastTold D) (same : Type 0) (before after : ℕ) → IsCycle (unmarked held.kept) at ask t → Reworks told held t old new before after (Err bodies_faults.Failed)
       → RedoesCycle told held at ask old.disk new.disk same before after (Err refusals.Disk)
   cycle_failed t old new same before after is done = record {
     alone = record {
@@ -416,7 +410,7 @@ module _ {D : Type 0} (told : D → DiskTold) (held : Held) (at : ℕ) (ask : Cy
       rewinds_due : IsCycle (unmarked held.kept) at ask t → IsRewinds (due_anew held.kept at ask)
       rewinds_due is = subst IsRewinds (sym is.due) tt
 
-  pub cycle_wanting : (t : Task) (old new : PastTold D) (same : Type 0) (before after : ℕ) → IsCycle (unmarked held.kept) at ask t → Reworks told held t old new before after (Err bodies_faults.NoMemory)
+  cycle_wanting : (t : Task) (old new : PastTold D) (same : Type 0) (before after : ℕ) → IsCycle (unmarked held.kept) at ask t → Reworks told held t old new before after (Err bodies_faults.NoMemory)
       → RedoesCycle told held at ask old.disk new.disk same before after (Err refusals.NoMemory)
   cycle_wanting t old new same before after is done = record {
     alone = record { cycled = tt; fit = tt; undone = tt; refused = rewinds_due is; cause = done.cause; due = λ failed. absurd (cc failed) };
@@ -429,6 +423,12 @@ module _ {D : Type 0} (told : D → DiskTold) (held : Held) (at : ℕ) (ask : Cy
     where
       rewinds_due : IsCycle (unmarked held.kept) at ask t → IsRewinds (due_anew held.kept at ask)
       rewinds_due is = subst IsRewinds (sym is.due) tt
+
+  -- it was not worked out
+  pub cycle_broken : (t : Task) (old new : PastTold D) (same : Type 0) (before after : ℕ) (fault : BodiesFault) → IsCycle (unmarked held.kept) at ask t → Reworks told held t old new before after (Err fault)
+      → RedoesCycle told held at ask old.disk new.disk same before after (Err (refused_by fault))
+  cycle_broken t old new same before after bodies_faults.Failed is done = cycle_failed t old new same before after is done
+  cycle_broken t old new same before after bodies_faults.NoMemory is done = cycle_wanting t old new same before after is done
 
   -- none is due
   pub cycle_undue : (disk : D) (same : Type 0) (steps : ℕ) (refused : CycleRefused) → IsRefusalOf (unmarked held.kept) ask (due_anew (unmarked held.kept) at ask) refused → (IsRewinds (due_anew (unmarked held.kept) at ask) → ⊥) → same

@@ -37,7 +37,7 @@ use Rattle.mail_cycle.specs.declared.refused.CycleRefused.TheVariants as refusal
 use Rattle.mail_cycle.specs.declared.settling.Rewound.{Rewound}
 use Rattle.mail_cycle.specs.Comparing.{broken_by, compared_from, told_by}
 use Rattle.mail_cycle.specs.Leaving.{IsMade, items_left}
-use Rattle.mail_cycle.specs.Refusing.{IsRefusalBy}
+use Rattle.mail_cycle.specs.Refusing.{IsRefusalBy, refused_by}
 use Rattle.mail_cycle.specs.Tasks.{GoesWith, Task, withdrawal_task}
 use Rattle.mail_cycle.proofs.Cycled.{few_told}
 use Rattle.mail_cycle.proofs.Made.{made_whole}
@@ -200,7 +200,7 @@ module _ {D : Type 0} (told : D → DiskTold) (held : Held) (at of : ℕ) (last 
       omega (arith, all, restored_few held.kept of last comes is_last)
 
   -- a read failed, or no memory was found
-  pub withdrawal_failed : (t : Task) (old new : PastTold D) (same : Type 0) (before after : ℕ) → HasUndone held.kept → t ≡ withdrawal_task (unmarked held.kept) at last → Reworks told held t old new before after (Err bodies_faults.Failed)
+  withdrawal_failed : (t : Task) (old new : PastTold D) (same : Type 0) (before after : ℕ) → HasUndone held.kept → t ≡ withdrawal_task (unmarked held.kept) at last → Reworks told held t old new before after (Err bodies_faults.Failed)
       → WithdrawsInSteps told held at of old.disk new.disk same before after (Err refusals.Disk)
   withdrawal_failed t old new same before after comes is done = record {
     alone = record {
@@ -217,7 +217,7 @@ module _ {D : Type 0} (told : D → DiskTold) (held : Held) (at of : ℕ) (last 
     steps = tt;
   }
 
-  pub withdrawal_wanting : (t : Task) (old new : PastTold D) (same : Type 0) (before after : ℕ) → HasUndone held.kept → t ≡ withdrawal_task (unmarked held.kept) at last → Reworks told held t old new before after (Err bodies_faults.NoMemory)
+  withdrawal_wanting : (t : Task) (old new : PastTold D) (same : Type 0) (before after : ℕ) → HasUndone held.kept → t ≡ withdrawal_task (unmarked held.kept) at last → Reworks told held t old new before after (Err bodies_faults.NoMemory)
       → WithdrawsInSteps told held at of old.disk new.disk same before after (Err refusals.NoMemory)
   withdrawal_wanting t old new same before after comes is done = record {
     alone = record { withdrawn = tt; fit = tt; refused = rewinds_due; cause = done.cause; due = λ failed. absurd (cc failed) };
@@ -227,6 +227,12 @@ module _ {D : Type 0} (told : D → DiskTold) (held : Held) (at of : ℕ) (last 
     any = any_failed t old new before after bodies_faults.NoMemory comes is done;
     steps = tt;
   }
+
+  -- it was not worked out
+  pub withdrawal_broken : (t : Task) (old new : PastTold D) (same : Type 0) (before after : ℕ) (fault : BodiesFault) → HasUndone held.kept → t ≡ withdrawal_task (unmarked held.kept) at last → Reworks told held t old new before after (Err fault)
+      → WithdrawsInSteps told held at of old.disk new.disk same before after (Err (refused_by fault))
+  withdrawal_broken t old new same before after bodies_faults.Failed comes is done = withdrawal_failed t old new same before after comes is done
+  withdrawal_broken t old new same before after bodies_faults.NoMemory comes is done = withdrawal_wanting t old new same before after comes is done
 
 -- ---- where none is due
 

@@ -3,7 +3,6 @@ use Rattle.std.specs.Prelude.{◌≡◌, ◌⊎◌, ◌≤◌, ◌+◌, ◌-◌,
 use Rattle.undo_outside.specs.Disk.{DiskTold, ReadFailed, WriteOutOfMemory}
 use Rattle.verb_core.specs.declared.bodies.BodiesFault.{BodiesFault}
 use Rattle.verb_core.specs.declared.bodies.BodiesFault.TheVariants.{Failed}
-use Rattle.verb_core.specs.declared.bodies.BodiesFault.TheVariants as bodies_faults
 use Rattle.verb_core.specs.declared.mailbox.Body.{Body}
 use Rattle.verb_bytes.specs.declared.journal.CycleAsk.{CycleAsk}
 use Rattle.verb_bytes.specs.declared.journal.JournalRecord.{JournalRecord}
@@ -47,11 +46,6 @@ use Rattle.desk_journal.specs.Submitting.{SealsNothing}
 use Rattle.desk_journal.specs.Telling.{HoldsHeld, IsPastRead, told_first}
 
 -- ---- a repair in memory
-
--- why there is no cycle, where a repair was not worked out
-abbrev pub refused_by : BodiesFault → CycleRefused
-refused_by Failed = refusals.Disk
-refused_by bodies_faults.NoMemory = refusals.NoMemory
 
 -- what it leaves, as a desk takes it, where it can be withdrawn and where it can't
 abbrev pub left_of : Bool → Rewound → Left
@@ -113,6 +107,10 @@ pub record Reworks {D : Type 0} (told : D → DiskTold) (held : Held) (t : Task)
   pub most : HoldsHeld (told old.disk) held → OnErr result (after ≤ before + most_begun held.kept t.repair.acts (reworked held.kept t.at t.repair))
   pub any : OnErr result (after ≤ before + length t.repair.items + length held.kept.house.accounts)
   pub steps : IfOk result (λ made. after ≤ before + length (items_left held.kept.timeline made))
+
+-- the same with nothing counted: of some steps
+abbrev pub ReworksAlone : {D : Type 0} → (D → DiskTold) → Held → Task → PastTold D → PastTold D → Result Rewound BodiesFault → Type 0
+ReworksAlone told held t old new result = (before : ℕ) × (after : ℕ) × Reworks told held t old new before after result
 
 -- ---- a cycle in memory
 

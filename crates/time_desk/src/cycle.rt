@@ -51,7 +51,8 @@ use mail_desk::{Fresh, Remade};
 use paradox::Report;
 use seal_log::{Place, SealFault};
 use std::alloc::Global;
-use std::sync::ledger::Ledger;
+use std::marker::Brand;
+use std::sync::ledger::{Blank, Ledger};
 use std::thread::Threads;
 use undo_base::{Copies, LAST_MOMENT, Name, NoMemory, Text};
 use undo_outside::{Disk, Gate};
@@ -100,26 +101,6 @@ pub(crate) struct Found {
     pub(crate) bytes: Text,
 }
 
-/// A copy of the report beside what is ready.
-fn with_report(alloc: Global, made: Remade, bytes: Text) -> Result<Found, NoMemory>
-    ensures remade { IfOk result (λ found. found.remade ≡ made) }
-    ensures report { IfOk result (λ found. found.report ≡ made.left.report) }
-    ensures bytes { IfOk result (λ found. found.bytes ≡ bytes) }
-{
-    match made.report().copy(alloc) {
-        Ok(report) => Ok(Found {
-            remade: made,
-            report,
-            bytes,
-        }),
-        Err(NoMemory) => {
-            drop(made);
-            drop(bytes);
-            Err(NoMemory)
-        }
-    }
-}
-
 /// What a repair leaves, made ready under a key, beside the bytes of its record.
 pub(crate) fn ready_with(
     alloc: Global,
@@ -143,7 +124,18 @@ pub(crate) fn ready_with(
     ensures bytes { IfOk result (λ found. found.bytes ≡ bytes) }
 {
     match remade(alloc, desk, key, undoes, made, fresh) {
-        Ok(remade) => with_report(alloc, remade, bytes),
+        Ok(remade) => match remade.report().copy(alloc) {
+            Ok(report) => Ok(Found {
+                remade,
+                report,
+                bytes,
+            }),
+            Err(NoMemory) => {
+                drop(remade);
+                drop(bytes);
+                Err(NoMemory)
+            }
+        },
         Err(NoMemory) => {
             drop(bytes);
             Err(NoMemory)
@@ -444,7 +436,16 @@ impl<D: Disk> Desk<D> {
         ensures same { OnOk result ((D.told self.new.disk).failed_reads ≡ (D.told self.old.disk).failed_reads) }
         ensures still { IsStill D.told self.old self.new }
     {
-        match redo::cycle_alone(rt, alloc, &mut self.journal, &self.desk, at, ask, gate) {
+        match redo::cycle_alone::<R, G, D, Brand>(
+            rt,
+            alloc,
+            &mut self.journal,
+            &self.desk,
+            at,
+            ask,
+            gate,
+            Blank::new(1),
+        ) {
             Ok(made) => Ok(report_in(made)),
             Err(refused) => Err(refused_as(refused)),
         }

@@ -13,7 +13,7 @@ ghost use Rattle.store_kept.specs.Kept.{undone_of};
 ghost use Rattle.repair_desk.specs.Repairs.{are_known};
 ghost use Rattle.mail_cycle.specs.Tasks.{Begins};
 ghost use Rattle.mail_desk.specs.Remaking.{CanReplace, remade_as};
-ghost use Rattle.time_desk.specs.Cycling.{CanBeUndone, CanRework, IsFit, RedoesAlone, RedoesCycle, Reworks, after_rewound, asked_then, refused_by};
+ghost use Rattle.time_desk.specs.Cycling.{CanBeUndone, CanRework, IsFit, RedoesAlone, RedoesCycle, Reworks, ReworksAlone, after_rewound, asked_then};
 ghost use Rattle.time_desk.specs.Planning.{BodiesCause};
 ghost use Rattle.time_desk.specs.Replaying.{some_marked};
 ghost use Rattle.time_desk.specs.Serving.{IsNewest, CanBegin, unmarked};
@@ -124,39 +124,35 @@ pub(crate) fn rewound<R: Threads + Sync, G: Gate, D: Disk, L: Ledger>(
     rework_by_levels(rt, alloc, due, first, &mut bodies, gate, steps)
 }
 
-/// The same, one item after the other.
+/// The same, one item after the other with nothing counted, over a counter that is made of the blank ledger.
 fn again<D: Disk, L: Ledger>(
     alloc: Global,
     past: &mut Past<D>,
     desk: &Desk,
     due: &Due<'_>,
-    steps: &mut Steps<L>,
+    blank: Blank,
 ) -> Result<Rewound, BodiesFault>
+    requires name { blank.name ≡ L.name }
+    requires parts { blank.parts ≡ L.parts }
+    requires some { 0 < blank.parts }
     requires noted { AreNoted past.old.end desk.now }
     requires can { CanRework D.told desk.now past.old.end due.now }
-    ensures { Reworks D.told desk.now due.now past.old past.new steps.old steps.new result }
+    ensures { ReworksAlone D.told desk.now due.now past.old past.new result }
 {
     desk.stands();
     due.stands();
     repairs_leave_states();
     repairs_begin_anywhere();
     bodies_have_texts();
+    let mut steps: Steps<L> = Steps::new(blank);
     let first = prepared(alloc, past, desk, due)?;
     let texts = new_texts(alloc, due.texts())?;
     let reading = Reading::of(past, desk, &texts, desk.next());
     let mut bodies = DueDeliveries { reading, due };
-    rework_in_order(alloc, due, first, &mut bodies, steps)
+    rework_in_order(alloc, due, first, &mut bodies, &mut steps)
 }
 
-/// Why there is no cycle, where a repair was not worked out.
-fn refused_for(fault: BodiesFault) -> CycleRefused
-    ensures { result ≡ refused_by fault }
-{
-    match fault {
-        BodiesFault::Failed => CycleRefused::Disk,
-        BodiesFault::NoMemory => CycleRefused::NoMemory,
-    }
-}
+// ---- a cycle
 
 /// What the cycle leaves that is due at a moment under a new key. Texts are read before a gate.
 fn cycle_before<R: Threads + Sync, G: Gate, D: Disk, L: Ledger>(
@@ -178,13 +174,9 @@ fn cycle_before<R: Threads + Sync, G: Gate, D: Disk, L: Ledger>(
     desk.stands();
     cycles_leave_states();
     cycles_can_be_withdrawn();
-    match Due::cycle(begun(desk), at, ask) {
-        Ok(due) => match rewound(rt, alloc, past, desk, &due, gate, steps) {
-            Ok(made) => Ok(made),
-            Err(fault) => Err(refused_for(fault)),
-        },
-        Err(refused) => Err(refused),
-    }
+    let due = Due::cycle(begun(desk), at, ask)?;
+    let made = rewound(rt, alloc, past, desk, &due, gate, steps)?;
+    Ok(made)
 }
 
 /// The same of a journal.
@@ -207,8 +199,8 @@ pub(crate) fn cycle<R: Threads + Sync, G: Gate, D: Disk, L: Ledger>(
     cycle_before(rt, alloc, &mut journal.past, desk, at, ask, gate, steps)
 }
 
-/// The same over a counter that is made of the blank ledger.
-fn cycle_over<R: Threads + Sync, G: Gate, D: Disk, L: Ledger>(
+/// The same with nothing counted, over a counter that is made of the blank ledger.
+pub(crate) fn cycle_alone<R: Threads + Sync, G: Gate, D: Disk, L: Ledger>(
     rt: &R,
     alloc: Global,
     journal: &mut Journal<D>,
@@ -231,56 +223,6 @@ fn cycle_over<R: Threads + Sync, G: Gate, D: Disk, L: Ledger>(
     cycle(rt, alloc, journal, desk, at, ask, gate, &mut steps)
 }
 
-/// The same, with nothing counted.
-pub(crate) fn cycle_alone<R: Threads + Sync, G: Gate, D: Disk>(
-    rt: &R,
-    alloc: Global,
-    journal: &mut Journal<D>,
-    desk: &Desk,
-    at: u64,
-    ask: &CycleAsk,
-    gate: &G,
-) -> Result<Rewound, CycleRefused>
-    requires noted { AreNoted journal.old.gate desk.now }
-    requires moment { at ≤ LAST_MOMENT }
-    requires known { IsTrue (are_known desk.now.kept.house ask.now.inserts) }
-    ensures redoes { RedoesAlone D.told desk.now at ask.now journal.old.disk journal.new.disk result }
-    ensures still { IsOnlyRead D.told journal.old journal.new }
-{
-    cycle_over::<R, G, D, Brand>(rt, alloc, journal, desk, at, ask, gate, Blank::new(1))
-}
-
-/// What the cycle leaves that is due, performed again with nothing counted, over a counter that is made of the blank ledger.
-fn again_over<D: Disk, L: Ledger>(
-    alloc: Global,
-    past: &mut Past<D>,
-    desk: &Desk,
-    at: u64,
-    ask: &CycleAsk,
-    blank: Blank,
-) -> Result<Rewound, CycleRefused>
-    requires name { blank.name ≡ L.name }
-    requires parts { blank.parts ≡ L.parts }
-    requires some { 0 < blank.parts }
-    requires noted { AreNoted past.old.end desk.now }
-    requires moment { at ≤ LAST_MOMENT }
-    requires known { IsTrue (are_known desk.now.kept.house ask.now.inserts) }
-    ensures redoes { RedoesAlone D.told desk.now at ask.now past.old.disk past.new.disk result }
-    ensures still { IsPastRead D.told past.old past.new }
-{
-    desk.stands();
-    cycles_leave_states();
-    cycles_can_be_withdrawn();
-    let mut steps: Steps<L> = Steps::new(blank);
-    match Due::cycle(begun(desk), at, ask) {
-        Ok(due) => match again(alloc, past, desk, &due, &mut steps) {
-            Ok(made) => Ok(made),
-            Err(fault) => Err(refused_for(fault)),
-        },
-        Err(refused) => Err(refused),
-    }
-}
-
 /// What the cycle leaves that is due, performed again.
 pub(crate) fn cycle_again<D: Disk>(
     alloc: Global,
@@ -295,8 +237,15 @@ pub(crate) fn cycle_again<D: Disk>(
     ensures redoes { RedoesAlone D.told desk.now at ask.now past.old.disk past.new.disk result }
     ensures still { IsPastRead D.told past.old past.new }
 {
-    again_over::<D, Brand>(alloc, past, desk, at, ask, Blank::new(1))
+    desk.stands();
+    cycles_leave_states();
+    cycles_can_be_withdrawn();
+    let due = Due::cycle(begun(desk), at, ask)?;
+    let made = again::<D, Brand>(alloc, past, desk, &due, Blank::new(1))?;
+    Ok(made)
 }
+
+// ---- a withdrawal
 
 /// What the withdrawal of the last cycle leaves that is due at a moment under a new key. Texts are read before a gate.
 fn withdrawal_before<R: Threads + Sync, G: Gate, D: Disk, L: Ledger>(
@@ -317,13 +266,9 @@ fn withdrawal_before<R: Threads + Sync, G: Gate, D: Disk, L: Ledger>(
 {
     desk.stands();
     withdrawals_leave_states();
-    match Due::withdrawal(alloc, begun(desk), at, last) {
-        Ok(due) => match rewound(rt, alloc, past, desk, &due, gate, steps) {
-            Ok(made) => Ok(made),
-            Err(fault) => Err(refused_for(fault)),
-        },
-        Err(refused) => Err(refused),
-    }
+    let due = Due::withdrawal(alloc, begun(desk), at, last)?;
+    let made = rewound(rt, alloc, past, desk, &due, gate, steps)?;
+    Ok(made)
 }
 
 /// The same of a journal, where the cycle has this number.
@@ -348,19 +293,14 @@ pub(crate) fn withdrawal<R: Threads + Sync, G: Gate, D: Disk, L: Ledger>(
     }
 }
 
-/// What the withdrawal of the last cycle leaves that is due, performed again with nothing counted, over a counter that is made of the
-/// blank ledger.
-fn withdrawal_over<D: Disk, L: Ledger>(
+/// What the withdrawal of the last cycle leaves that is due, performed again.
+fn undone_again<D: Disk>(
     alloc: Global,
     past: &mut Past<D>,
     desk: &Desk,
     at: u64,
     last: &UndoneBehind,
-    blank: Blank,
 ) -> Result<Rewound, CycleRefused>
-    requires name { blank.name ≡ L.name }
-    requires parts { blank.parts ≡ L.parts }
-    requires some { 0 < blank.parts }
     requires last { desk.now.kept.undone ≡ Some last.now }
     requires noted { AreNoted past.old.end desk.now }
     requires moment { at ≤ LAST_MOMENT }
@@ -369,14 +309,9 @@ fn withdrawal_over<D: Disk, L: Ledger>(
 {
     desk.stands();
     withdrawals_leave_states();
-    let mut steps: Steps<L> = Steps::new(blank);
-    match Due::withdrawal(alloc, begun(desk), at, last) {
-        Ok(due) => match again(alloc, past, desk, &due, &mut steps) {
-            Ok(made) => Ok(made),
-            Err(fault) => Err(refused_for(fault)),
-        },
-        Err(refused) => Err(refused),
-    }
+    let due = Due::withdrawal(alloc, begun(desk), at, last)?;
+    let made = again::<D, Brand>(alloc, past, desk, &due, Blank::new(1))?;
+    Ok(made)
 }
 
 /// The same, where the cycle has this number.
@@ -393,10 +328,12 @@ pub(crate) fn withdrawal_again<D: Disk>(
     ensures still { IsPastRead D.told past.old past.new }
 {
     match desk.undone(of) {
-        Some(last) => withdrawal_over::<D, Brand>(alloc, past, desk, at, last, Blank::new(1)),
+        Some(last) => undone_again(alloc, past, desk, at, last),
         None => Err(CycleRefused::Point { given: of }),
     }
 }
+
+// ---- what it leaves
 
 /// Makes what a repair leaves ready to be put in place, under a key, where it can be withdrawn and where it can't.
 pub(crate) fn remade(

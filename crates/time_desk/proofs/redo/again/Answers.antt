@@ -8,7 +8,7 @@ use Rattle.store_kept.specs.Kept.{Kept}
 use Rattle.mail_cycle.specs.declared.beginning.Beginning.{Beginning}
 use Rattle.mail_cycle.specs.declared.settling.Rewound.{Rewound}
 use Rattle.desk_journal.specs.Lasting.{PastTold}
-use Rattle.time_desk.specs.Cycling.{Reworks}
+use Rattle.time_desk.specs.Cycling.{ReworksAlone}
 use Rattle.time_desk.specs.Replaying.{delivered_told}
 use Rattle.time_desk.proofs.Delivering.{tells_delivered}
 use Rattle.time_desk.proofs.Rewinding.{cause_of, reworks, reworks_none}
@@ -35,25 +35,34 @@ returns g c =
     let task = c.stands-2.ensures.task in
     let place = subst (λ (k : Kept). due.repair.place ≤ length k.timeline) c.requires.can.kept task.place in
     let left = subst (λ (k : Kept). leaves_numbers_for k due.repair.acts ≡ true) c.requires.can.kept task.numbers in
-    subst (λ (p : PastTold g.row.D.Denot). Reworks g.D.Disk.told c.args.desk.now due c.args.past.now p c.args.steps.now c.rework_in_order.new.steps c.rework_in_order.result) (search rules)
-    (reworks g.D.Disk.told c.args.desk.now due task c.args.past.now c.requires.can first c.in_ok-first.ensures.serves
-    c.prepared.new.past c.of-reading.result c.rework_in_order.new.bodies.reading c.rework_in_order.new.bodies.due.now.repair.items c.args.steps.now c.rework_in_order.new.steps c.rework_in_order.result
-    c.bodies_have_texts.ensures.behind stands.base
-    (λ heard all. c.repairs_leave_states.ensures.from kept due.at due.repair first.store.store first.count heard c.requires.can.goes stands.fresh c.in_ok-first.ensures.serves.few all left)
-    (λ heard same. c.repairs_begin_anywhere.ensures.front kept due.at due.repair first.store.store first.count heard c.in_ok-first.ensures.serves.few place same)
-    c.in_ok-first.ensures.newest c.in_ok-first.ensures.first c.prepared.ensures.still c.in_ok-first.ensures.cause r.past.1 r.desk r.failed (r.cycle ∙ c.next.ensures) (r.replaces ∙ c.in_ok-texts.ensures.texts ∙ c.texts.ensures) done.leads done.reads done.made done.steps done.most)
+    subst (λ (p : PastTold g.row.D.Denot). ReworksAlone g.D.Disk.told c.args.desk.now due c.args.past.now p c.rework_in_order.result) (search rules) (
+      c.new-steps.result,
+      c.rework_in_order.new.steps,
+      (reworks g.D.Disk.told c.args.desk.now due task c.args.past.now c.requires.can first c.in_ok-first.ensures.serves
+          c.prepared.new.past c.of-reading.result c.rework_in_order.new.bodies.reading c.rework_in_order.new.bodies.due.now.repair.items c.new-steps.result c.rework_in_order.new.steps c.rework_in_order.result
+          c.bodies_have_texts.ensures.behind stands.base
+          (λ heard all. c.repairs_leave_states.ensures.from kept due.at due.repair first.store.store first.count heard c.requires.can.goes stands.fresh c.in_ok-first.ensures.serves.few all left)
+          (λ heard same. c.repairs_begin_anywhere.ensures.front kept due.at due.repair first.store.store first.count heard c.in_ok-first.ensures.serves.few place same)
+          c.in_ok-first.ensures.newest c.in_ok-first.ensures.first c.prepared.ensures.still c.in_ok-first.ensures.cause r.past.1 r.desk r.failed (r.cycle ∙ c.next.ensures) (r.replaces ∙ c.in_ok-texts.ensures.texts ∙ c.texts.ensures) done.leads done.reads done.made done.steps done.most),
+    )
 
 -- before it nothing was performed
 pub returns-in_err-first : goal.returns-in_err-first
 returns-in_err-first g c =
     let p = err_from_is_err_and c.from_residual.result c.from_residual.ensures.1 in
-    let told = g.D.Disk.told in
-    reworks_none told c.args.desk.now c.args.due.now c.args.past.now c.prepared.new.past c.args.steps.now c.from_residual.result p.0 c.in_err-first.field-0.0 p.1 p.2
-    (cause_of Beginning Rewound (told c.args.past.now.disk) (told c.prepared.new.past.disk) c.in_err-first.field-0.0 c.in_err-first.ensures.cause)
-    (λ failed. c.in_err-first.ensures.due (ap (λ (f : BodiesFault). Err f) failed)) c.prepared.ensures.still
+    let told = g.D.Disk.told in (
+      c.new-steps.result,
+      c.new-steps.result,
+      reworks_none told c.args.desk.now c.args.due.now c.args.past.now c.prepared.new.past c.new-steps.result c.from_residual.result p.0 c.in_err-first.field-0.0 p.1 p.2
+          (cause_of Beginning Rewound (told c.args.past.now.disk) (told c.prepared.new.past.disk) c.in_err-first.field-0.0 c.in_err-first.ensures.cause)
+          (λ failed. c.in_err-first.ensures.due (ap (λ (f : BodiesFault). Err f) failed)) c.prepared.ensures.still,
+    )
 
 pub returns-in_err-texts : goal.returns-in_err-texts
 returns-in_err-texts g c =
-    let p = err_from_is_err_and c.from_residual-in_err-texts.result c.from_residual-in_err-texts.ensures.1 in
-    reworks_none g.D.Disk.told c.args.desk.now c.args.due.now c.args.past.now c.prepared.new.past c.args.steps.now c.from_residual-in_err-texts.result p.0 bodies_faults.NoMemory p.1 (p.2 ∙ c.in_err-texts.ensures.memory)
-    c.in_ok-first.ensures.cause (λ failed. absurd (cc failed)) c.prepared.ensures.still
+    let p = err_from_is_err_and c.from_residual-in_err-texts.result c.from_residual-in_err-texts.ensures.1 in (
+      c.new-steps.result,
+      c.new-steps.result,
+      reworks_none g.D.Disk.told c.args.desk.now c.args.due.now c.args.past.now c.prepared.new.past c.new-steps.result c.from_residual-in_err-texts.result p.0 bodies_faults.NoMemory p.1 (p.2 ∙ c.in_err-texts.ensures.memory)
+          c.in_ok-first.ensures.cause (λ failed. absurd (cc failed)) c.prepared.ensures.still,
+    )
