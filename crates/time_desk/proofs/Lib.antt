@@ -33,3 +33,4 @@ pub mod Judging
 pub mod Places
 pub mod Unread
 pub mod Headed
+pub mod Performing

@@ -1,6 +1,7 @@
 -- What becomes of a journal's front while it is read.
-use Rattle.std.specs.Prelude.{◌≡◌, ◌<◌, ℕ, Bool, true, false, List, [], ◌∷◌, ◌++◌, length, Option, Some, None}
+use Rattle.std.specs.Prelude.{◌≡◌, ◌<◌, ℕ, Bool, true, false, List, [], ◌∷◌, ◌++◌, length, Option, Some, None, Result, IfErr, IfOk, OnOk}
 use Rattle.std.specs.List.{AllByRecursion, list_all}
+use Rattle.undo_outside.specs.Disk.{DiskTold}
 use Rattle.verb_core.specs.declared.conf.Conf.{Conf}
 use Rattle.verb_core.specs.declared.conf.House.{House}
 use Rattle.verb_core.specs.declared.item.Item.{Item}
@@ -8,18 +9,22 @@ use Rattle.verb_core.specs.declared.mailbox.Body.{Body}
 use Rattle.verb_bytes.specs.declared.journal.JournalRecord.{JournalRecord}
 use Rattle.verb_bytes.specs.declared.journal.JournalRecord.TheVariants.{Base as BaseRecord}
 use Rattle.verb_bytes.specs.Spelling.{Spells}
-use Rattle.seal_log.specs.Journal.{sealed}
+use Rattle.seal_log.specs.Journal.{LiesAt, sealed}
+use Rattle.seal_log.specs.Settled.{Holds}
+use Rattle.seal_log.specs.declared.place.Place.{Place}
 use Rattle.store_kept.specs.Founding.{entries_of, founded, is_entry_below, names_body}
 use Rattle.store_kept.specs.Kept.{Kept}
 use Rattle.mail_desk.specs.Founding.{Founded}
 use Rattle.mail_desk.specs.declared.founding.BaseParts.{BaseParts}
 use Rattle.desk_journal.specs.Founding.{Fore, first_fore, fore_of, goes_on, own, settled}
+use Rattle.desk_journal.specs.Lasting.{PastTold}
 use Rattle.desk_journal.specs.Records.{payloads_of}
 use Rattle.desk_journal.specs.Stored.{TextsNoted, TextsStored}
+use Rattle.desk_journal.specs.Telling.{IsPastRead}
 use Rattle.time_desk.specs.declared.fault.StartFault.{StartFault}
 use Rattle.time_desk.specs.declared.fault.StartFault.TheVariants.{NotFormatted, Damaged, Disk, NoMemory}
 use Rattle.time_desk.specs.Opening.{SpellsNone, fits}
-use Rattle.time_desk.specs.Standing.{BreaksInFront}
+use Rattle.time_desk.specs.Standing.{BreaksInFront, ReadCounts}
 
 -- ---- what was read of it
 
@@ -103,6 +108,22 @@ pub record GoesOnWith (old : Founded) (payload : List ℕ) (went : Bool) (new : 
   pub what : JournalRecord
   pub spells : Spells what payload
   pub is : GoesWith old what went new
+
+-- What comes of the record at a place that is read behind what was read of a front. It goes on with it or is of another kind, and the texts that
+-- have come lie where they are noted; or it can't stand there, and its gate is told. The disk was read alone, and a read failed exactly where
+-- that is why.
+pub record GoesOnAt {D : Type 0} (told : D → DiskTold) (place : Place) (old new : PastTold D) (before after : Founded) (result : Result Bool StartFault) : Type 0 where
+  pub goes : (payloads : List (List ℕ)) (payload : List ℕ) → Holds (told old.disk) payloads → LiesAt payloads place.gate place.length payload
+      → IfOk result (λ went. GoesOnWith before payload went after)
+  pub bad : (payloads : List (List ℕ)) (payload : List ℕ) → Holds (told old.disk) payloads → LiesAt payloads place.gate place.length payload
+      → IfErr result (FailsFront (Some (fore_in before)) payload place.gate)
+  pub noted : OnOk result (FoundNoted old.end after)
+  pub grounded : OnOk result (IsGrounded after)
+  pub stored : (payloads : List (List ℕ)) (payload : List ℕ) → Holds (told old.disk) payloads → LiesAt payloads place.gate place.length payload
+      → FoundStored payloads before → OnOk result (FoundStored payloads after)
+  pub still : IsPastRead told old new
+  pub ok : OnOk result ((told new.disk).failed_reads ≡ (told old.disk).failed_reads)
+  pub fault : IfErr result (ReadCounts (told old.disk) (told new.disk))
 
 -- ---- many
 

@@ -1,5 +1,5 @@
 -- Payloads that are read in order, and the records that stand one behind the other.
-use Rattle.std.specs.Prelude.{◌≡◌, ◌⊎◌, ◌≤◌, ◌+◌, ℕ, Bool, true, false, ◌&&◌, not, List, [], ◌∷◌, ◌++◌, length, take, Option, Some, None, IsTrue, if◌then◌else◌}
+use Rattle.std.specs.Prelude.{◌≡◌, ◌⊎◌, ◌≤◌, ◌+◌, ℕ, Bool, true, false, ◌&&◌, not, List, [], ◌∷◌, ◌++◌, length, take, Option, Some, None, Result, IfErr, OnOk, IsTrue, if◌then◌else◌}
 use Rattle.std.specs.List.{list_all}
 use Rattle.undo_base.specs.declared.keys.User.{User}
 use Rattle.verb_core.specs.declared.conf.Conf.{Conf}
@@ -11,7 +11,7 @@ use Rattle.verb_core.specs.Store.{is_known}
 use Rattle.verb_bytes.specs.declared.journal.JournalRecord.{JournalRecord}
 use Rattle.verb_bytes.specs.Spelling.{Spells}
 use Rattle.undo_outside.specs.Disk.{DiskTold, ReadFailed}
-use Rattle.seal_log.specs.Journal.{sealed}
+use Rattle.seal_log.specs.Journal.{LiesAt, sealed}
 use Rattle.seal_log.specs.Loading.{places_from}
 use Rattle.seal_log.specs.declared.fault.ReadFault.{ReadFault}
 use Rattle.seal_log.specs.declared.fault.ReadFault.TheVariants as read_faults
@@ -25,7 +25,10 @@ use Rattle.time_desk.specs.declared.fault.StartFault.{StartFault}
 use Rattle.time_desk.specs.declared.fault.StartFault.TheVariants.{NotFormatted, Damaged, Disk, NoMemory}
 use Rattle.time_desk.specs.Opening.{IsFore, SpellsNone, can_come, fits}
 use Rattle.desk_journal.specs.Founding.{Fore, behind, fore_of, front, goes_on, opening_state, settled}
+use Rattle.desk_journal.specs.Lasting.{PastTold}
 use Rattle.desk_journal.specs.Records.{after_record, after_records, can_follow, payloads_of, state}
+use Rattle.desk_journal.specs.Stored.{AreNoted, TextsHeld}
+use Rattle.desk_journal.specs.Telling.{IsPastRead}
 
 -- ---- one record
 
@@ -125,6 +128,20 @@ pub record Performed (due : JournalRecord → Option Kept) (payload : List ℕ) 
   pub what : JournalRecord
   pub spells : Spells what payload
   pub is : due what ≡ Some kept
+
+-- What comes of the record at a place that is read and performed. What is kept is what it comes to, and the texts lie where they are noted;
+-- or it comes to nothing, and its gate is told. The disk was read alone, and a read failed exactly where that is why.
+pub record PerformsAt {D T : Type 0} (told : D → DiskTold) (place : Place) (old new : PastTold D) (before after : Held) (result : Result T StartFault) : Type 0 where
+  pub performed : (payloads : List (List ℕ)) (payload : List ℕ) → TextsHeld (told old.disk) payloads before.kept before.notes before.marks
+      → LiesAt payloads place.gate place.length payload → OnOk result (Performed (after_record before.kept) payload after.kept)
+  pub bad : (payloads : List (List ℕ)) (payload : List ℕ) → TextsHeld (told old.disk) payloads before.kept before.notes before.marks
+      → LiesAt payloads place.gate place.length payload → IfErr result (FailsPayload (after_record before.kept) payload place.gate)
+  pub texts : (payloads : List (List ℕ)) (payload : List ℕ) → TextsHeld (told old.disk) payloads before.kept before.notes before.marks
+      → LiesAt payloads place.gate place.length payload → OnOk result (TextsHeld (told new.disk) payloads after.kept after.notes after.marks)
+  pub noted : OnOk result (AreNoted old.end after)
+  pub still : IsPastRead told old new
+  pub ok : OnOk result ((told new.disk).failed_reads ≡ (told old.disk).failed_reads)
+  pub fault : IfErr result (ReadCounts (told old.disk) (told new.disk))
 
 -- ---- many payloads
 

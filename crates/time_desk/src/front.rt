@@ -24,7 +24,7 @@ ghost use Rattle.desk_journal.specs.Records.{payloads_of};
 ghost use Rattle.desk_journal.specs.Stored.{AreNoted, TextsHeld};
 ghost use Rattle.desk_journal.specs.Telling.{IsPastRead};
 ghost use Rattle.house_text.specs.Beginning.{can_begin as begins};
-ghost use Rattle.time_desk.specs.Fronts.{BaseOf, BeginsBased, BeginsWith, FailsFront, FailsSecond, FoundNoted, FoundStored, GoesOnWith, GoesWith, IsFirst, IsGrounded, LacksOrEnds, SecondIs, SpellsBase, StopsInFront, WentOn, fore_at, fore_in, kept_in, record_of};
+ghost use Rattle.time_desk.specs.Fronts.{BaseOf, BeginsBased, BeginsWith, FailsFront, FailsSecond, FoundNoted, FoundStored, GoesOnAt, GoesWith, IsFirst, IsGrounded, LacksOrEnds, SecondIs, SpellsBase, StopsInFront, WentOn, fore_at, fore_in, kept_in, record_of};
 ghost use Rattle.time_desk.specs.Heads.{IsHead, brings_kept, headed};
 ghost use Rattle.time_desk.specs.Opening.{fits};
 ghost use Rattle.time_desk.specs.Standing.{Fails, FrontBreaksFor, IsFormed, Opens, ReadCounts};
@@ -451,17 +451,7 @@ fn go_on_whole<D: Disk>(
     requires place { place.gate + 5 + place.length ≤ past.old.end }
     requires noted { FoundNoted past.old.end founding.old }
     requires grounded { IsGrounded founding.old }
-    ensures goes { (payloads : List (List ℕ)) (payload : List ℕ) → Holds (D.told past.old.disk) payloads
-        → LiesAt payloads place.gate place.length payload → IfOk result (λ went. GoesOnWith founding.old payload went founding.new) }
-    ensures bad { (payloads : List (List ℕ)) (payload : List ℕ) → Holds (D.told past.old.disk) payloads
-        → LiesAt payloads place.gate place.length payload → IfErr result (FailsFront (Some (fore_in founding.old)) payload place.gate) }
-    ensures noted { OnOk result (FoundNoted past.old.end founding.new) }
-    ensures grounded { OnOk result (IsGrounded founding.new) }
-    ensures stored { (payloads : List (List ℕ)) (payload : List ℕ) → Holds (D.told past.old.disk) payloads
-        → LiesAt payloads place.gate place.length payload → FoundStored payloads founding.old → OnOk result (FoundStored payloads founding.new) }
-    ensures still { IsPastRead D.told past.old past.new }
-    ensures ok { OnOk result ((D.told past.new.disk).failed_reads ≡ (D.told past.old.disk).failed_reads) }
-    ensures fault { IfErr result (ReadCounts (D.told past.old.disk) (D.told past.new.disk)) }
+    ensures { GoesOnAt D.told place past.old past.new founding.old founding.new result }
 {
     one_spelling();
     match record_at(alloc, past, place) {
@@ -490,17 +480,7 @@ fn go_on_at<D: Disk>(
     requires place { place.gate + 5 + place.length ≤ past.old.end }
     requires noted { FoundNoted past.old.end founding.old }
     requires grounded { IsGrounded founding.old }
-    ensures goes { (payloads : List (List ℕ)) (payload : List ℕ) → Holds (D.told past.old.disk) payloads
-        → LiesAt payloads place.gate place.length payload → IfOk result (λ went. GoesOnWith founding.old payload went founding.new) }
-    ensures bad { (payloads : List (List ℕ)) (payload : List ℕ) → Holds (D.told past.old.disk) payloads
-        → LiesAt payloads place.gate place.length payload → IfErr result (FailsFront (Some (fore_in founding.old)) payload place.gate) }
-    ensures noted { OnOk result (FoundNoted past.old.end founding.new) }
-    ensures grounded { OnOk result (IsGrounded founding.new) }
-    ensures stored { (payloads : List (List ℕ)) (payload : List ℕ) → Holds (D.told past.old.disk) payloads
-        → LiesAt payloads place.gate place.length payload → FoundStored payloads founding.old → OnOk result (FoundStored payloads founding.new) }
-    ensures still { IsPastRead D.told past.old past.new }
-    ensures ok { OnOk result ((D.told past.new.disk).failed_reads ≡ (D.told past.old.disk).failed_reads) }
-    ensures fault { IfErr result (ReadCounts (D.told past.old.disk) (D.told past.new.disk)) }
+    ensures { GoesOnAt D.told place past.old past.new founding.old founding.new result }
 {
     one_spelling();
     match head_at(alloc, past, place) {

@@ -17,7 +17,7 @@ ghost use Rattle.desk_journal.specs.Permanence.{RevsBelow};
 ghost use Rattle.time_desk.specs.Heads.{IsHead, headed};
 ghost use Rattle.time_desk.specs.Opening.{IsStarted, Refuses, Starts};
 ghost use Rattle.desk_journal.specs.Records.{after_record};
-ghost use Rattle.time_desk.specs.Standing.{BreaksFor, Fails, FailsPayload, FailsReading, LeadsTo, Performed, ReadCounts, SpellsAll, SpellsNothing, StopsFor};
+ghost use Rattle.time_desk.specs.Standing.{BreaksFor, Fails, FailsReading, LeadsTo, PerformsAt, ReadCounts, SpellsAll, SpellsNothing, StopsFor};
 ghost use Rattle.desk_journal.specs.Stored.{AreNoted, HoldsTexts, SettledTexts, TextsHeld};
 ghost use Rattle.desk_journal.specs.Telling.{IsPastRead};
 
@@ -143,19 +143,7 @@ fn perform_whole<D: Disk>(
 ) -> Result<(), StartFault>
     requires noted { AreNoted past.old.end desk.old }
     requires place { place.gate + 5 + place.length ≤ past.old.end }
-    ensures performed { (payloads : List (List ℕ)) (payload : List ℕ) → TextsHeld (D.told past.old.disk) payloads desk.old.kept desk.old.notes desk.old.marks
-        → LiesAt payloads place.gate place.length payload
-        → OnOk result (Performed (after_record desk.old.kept) payload desk.new.kept) }
-    ensures bad { (payloads : List (List ℕ)) (payload : List ℕ) → TextsHeld (D.told past.old.disk) payloads desk.old.kept desk.old.notes desk.old.marks
-        → LiesAt payloads place.gate place.length payload
-        → IfErr result (FailsPayload (after_record desk.old.kept) payload place.gate) }
-    ensures texts { (payloads : List (List ℕ)) (payload : List ℕ) → TextsHeld (D.told past.old.disk) payloads desk.old.kept desk.old.notes desk.old.marks
-        → LiesAt payloads place.gate place.length payload
-        → OnOk result (TextsHeld (D.told past.new.disk) payloads desk.new.kept desk.new.notes desk.new.marks) }
-    ensures noted { OnOk result (AreNoted past.old.end desk.new) }
-    ensures still { IsPastRead D.told past.old past.new }
-    ensures ok { OnOk result ((D.told past.new.disk).failed_reads ≡ (D.told past.old.disk).failed_reads) }
-    ensures fault { IfErr result (ReadCounts (D.told past.old.disk) (D.told past.new.disk)) }
+    ensures { PerformsAt D.told place past.old past.new desk.old desk.new result }
 {
     one_spelling();
     match record_at(alloc, past, place) {
@@ -206,19 +194,7 @@ fn perform_unfiltered<D: Disk>(
     requires noted { AreNoted past.old.end desk.old }
     requires unfiltered { (store_of desk.old.kept).conf.filters ≡ [] }
     requires place { place.gate + 5 + place.length ≤ past.old.end }
-    ensures performed { (payloads : List (List ℕ)) (payload : List ℕ) → TextsHeld (D.told past.old.disk) payloads desk.old.kept desk.old.notes desk.old.marks
-        → LiesAt payloads place.gate place.length payload
-        → OnOk result (Performed (after_record desk.old.kept) payload desk.new.kept) }
-    ensures bad { (payloads : List (List ℕ)) (payload : List ℕ) → TextsHeld (D.told past.old.disk) payloads desk.old.kept desk.old.notes desk.old.marks
-        → LiesAt payloads place.gate place.length payload
-        → IfErr result (FailsPayload (after_record desk.old.kept) payload place.gate) }
-    ensures texts { (payloads : List (List ℕ)) (payload : List ℕ) → TextsHeld (D.told past.old.disk) payloads desk.old.kept desk.old.notes desk.old.marks
-        → LiesAt payloads place.gate place.length payload
-        → OnOk result (TextsHeld (D.told past.new.disk) payloads desk.new.kept desk.new.notes desk.new.marks) }
-    ensures noted { OnOk result (AreNoted past.old.end desk.new) }
-    ensures still { IsPastRead D.told past.old past.new }
-    ensures ok { OnOk result ((D.told past.new.disk).failed_reads ≡ (D.told past.old.disk).failed_reads) }
-    ensures fault { IfErr result (ReadCounts (D.told past.old.disk) (D.told past.new.disk)) }
+    ensures { PerformsAt D.told place past.old past.new desk.old desk.new result }
 {
     one_spelling();
     match head_at(alloc, past, place) {
@@ -237,19 +213,7 @@ fn perform_at<D: Disk>(
 ) -> Result<(), StartFault>
     requires noted { AreNoted past.old.end desk.old }
     requires place { place.gate + 5 + place.length ≤ past.old.end }
-    ensures performed { (payloads : List (List ℕ)) (payload : List ℕ) → TextsHeld (D.told past.old.disk) payloads desk.old.kept desk.old.notes desk.old.marks
-        → LiesAt payloads place.gate place.length payload
-        → OnOk result (Performed (after_record desk.old.kept) payload desk.new.kept) }
-    ensures bad { (payloads : List (List ℕ)) (payload : List ℕ) → TextsHeld (D.told past.old.disk) payloads desk.old.kept desk.old.notes desk.old.marks
-        → LiesAt payloads place.gate place.length payload
-        → IfErr result (FailsPayload (after_record desk.old.kept) payload place.gate) }
-    ensures texts { (payloads : List (List ℕ)) (payload : List ℕ) → TextsHeld (D.told past.old.disk) payloads desk.old.kept desk.old.notes desk.old.marks
-        → LiesAt payloads place.gate place.length payload
-        → OnOk result (TextsHeld (D.told past.new.disk) payloads desk.new.kept desk.new.notes desk.new.marks) }
-    ensures noted { OnOk result (AreNoted past.old.end desk.new) }
-    ensures still { IsPastRead D.told past.old past.new }
-    ensures ok { OnOk result ((D.told past.new.disk).failed_reads ≡ (D.told past.old.disk).failed_reads) }
-    ensures fault { IfErr result (ReadCounts (D.told past.old.disk) (D.told past.new.disk)) }
+    ensures { PerformsAt D.told place past.old past.new desk.old desk.new result }
 {
     if desk.conf().filters.is_empty() {
         perform_unfiltered(alloc, past, place, desk)
