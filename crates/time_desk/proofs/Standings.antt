@@ -98,6 +98,10 @@ unread_spells payload gate read_faults.Disk = tt
 unread_spells payload gate read_faults.NoMemory = tt
 
 -- more is said of why a call gave nothing
+-- a fault by another name
+pub if_err_from : {T E : Type 0} (r : Result T E) (P : E → Type 0) (fault why : E) → r ≡ Err fault → fault ≡ why → P why → IfErr r P
+if_err_from r P fault why is same p = subst (λ x. IfErr x P) (sym is) (subst P (sym same) p)
+
 pub if_err : {T E : Type 0} (r : Result T E) (P Q : E → Type 0) → ((e : E) → P e → Q e) → IfErr r P → IfErr r Q
 if_err (Ok x) P Q more h = h
 if_err (Err e) P Q more h = more e h

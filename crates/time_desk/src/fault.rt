@@ -1,7 +1,4 @@
 //! Why a desk was not started, and why a cycle or a withdrawal was not done.
-ghost use Rattle.std.specs.Prelude.{◌≡◌};
-ghost use Rattle.time_desk.specs.Standing.{fault_of_read as told_of_read};
-
 use seal_log::ReadFault;
 
 /// Why a desk was not started.
@@ -48,12 +45,17 @@ pub enum WithdrawFault {
     Closed,
 }
 
-/// Why a desk was not started, where a payload was not read.
-pub(crate) fn fault_of_read(fault: ReadFault) -> StartFault
-    ensures { result ≡ told_of_read fault }
-{
-    match fault {
-        ReadFault::Disk => StartFault::Disk,
-        ReadFault::NoMemory => StartFault::NoMemory,
+/// A payload was not read.
+impl From<ReadFault> for StartFault {
+    ghost use Rattle.std.specs.Prelude.{◌≡◌};
+    ghost use Rattle.time_desk.specs.Standing.{fault_of_read};
+
+    ghost from_gives = { λ fault told. told ≡ fault_of_read fault };
+
+    fn from(fault: ReadFault) -> Self {
+        match fault {
+            ReadFault::Disk => StartFault::Disk,
+            ReadFault::NoMemory => StartFault::NoMemory,
+        }
     }
 }

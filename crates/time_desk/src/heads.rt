@@ -10,7 +10,6 @@ ghost use Rattle.time_desk.specs.Heads.{IsHead, has_notice as brings_notice, hea
 ghost use Rattle.time_desk.specs.Standing.{FailsReading, ReadCounts};
 
 use crate::StartFault;
-use crate::fault::fault_of_read;
 use desk_journal::Past;
 use seal_log::Place;
 use std::alloc::Global;
@@ -148,10 +147,8 @@ fn head_before<D: Disk>(
     ensures fault { IfErr result (ReadCounts (D.told past.old.disk) (D.told past.new.disk)) }
 {
     let end = hole.from + hole.length;
-    match past.read(alloc, place, end, place.length - end) {
-        Ok(back) => Ok(head_around(alloc, past, place, front, hole, &back)),
-        Err(fault) => Err(fault_of_read(fault)),
-    }
+    let back = past.read(alloc, place, end, place.length - end)?;
+    Ok(head_around(alloc, past, place, front, hole, &back))
 }
 
 /// The same, by the first bytes with the length of the text.
@@ -227,8 +224,6 @@ pub(crate) fn head_at<D: Disk>(
     if place.length <= SHORT {
         return Ok(None);
     }
-    match past.read(alloc, place, 0, FIRST) {
-        Ok(first) => head_in(alloc, past, place, first.bytes()),
-        Err(fault) => Err(fault_of_read(fault)),
-    }
+    let first = past.read(alloc, place, 0, FIRST)?;
+    head_in(alloc, past, place, first.bytes())
 }

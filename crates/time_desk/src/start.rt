@@ -21,11 +21,10 @@ ghost use Rattle.time_desk.specs.Standing.{BreaksFor, Fails, FailsReading, Leads
 ghost use Rattle.desk_journal.specs.Stored.{AreNoted, HoldsTexts, SettledTexts, TextsHeld};
 ghost use Rattle.desk_journal.specs.Telling.{IsPastRead};
 
-use crate::fault::fault_of_read;
 use crate::front::begin_at;
 use crate::heads::{HeadOf, head_at};
-use crate::permanence::records_let_uids_last;
 use crate::lying::follow_head;
+use crate::permanence::records_let_uids_last;
 use crate::standing::follow;
 use crate::{Desk, StartFault};
 use desk_journal::{Journal, Past};
@@ -81,10 +80,8 @@ pub(crate) fn record_at<D: Disk>(
     ensures ok { OnOk result ((D.told past.new.disk).failed_reads ≡ (D.told past.old.disk).failed_reads) }
     ensures fault { IfErr result (ReadCounts (D.told past.old.disk) (D.told past.new.disk)) }
 {
-    match past.read(alloc, place, 0, place.length) {
-        Ok(payload) => decoded_at(alloc, &payload, place),
-        Err(fault) => Err(fault_of_read(fault)),
-    }
+    let payload = past.read(alloc, place, 0, place.length)?;
+    decoded_at(alloc, &payload, place)
 }
 
 /// Revs stay below the next number when records are performed, texts that can come back still can, and the store stays what the
@@ -123,15 +120,11 @@ fn performed<D: Disk>(
     ensures fault { IfErr result (ReadCounts (D.told past.old.disk) (D.told past.new.disk)) }
 {
     revs_stay(desk);
-    match follow(alloc, past, desk, what, place) {
-        Ok(stood) => {
-            if stood {
-                return Ok(());
-            }
-            Err(StartFault::Damaged { place: place.gate })
-        }
-        Err(fault) => Err(fault_of_read(fault)),
+    let stood = follow(alloc, past, desk, what, place)?;
+    if stood {
+        return Ok(());
     }
+    Err(StartFault::Damaged { place: place.gate })
 }
 
 /// Reads the whole record at a place, and performs it.

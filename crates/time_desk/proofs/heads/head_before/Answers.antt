@@ -1,22 +1,27 @@
 use Rattle.std.proofs.Common.{◌≡◌, ◌+◌, ◌-◌, ℕ, ◌∙◌, ap, sym, subst, arith}
+use Rattle.std.proofs.lemmas.Result.{err_from_is_err_and}
 use Rattle.std.specs.Prelude.{slice_range}
 use Rattle.desk_journal.proofs.Staying.{holds_on}
 use Rattle.time_desk.specs.Standing.{FailsReading, ReadCounts}
-use Rattle.time_desk.proofs.Standings.{unread_counts, unread_fails}
+use Rattle.time_desk.proofs.Standings.{if_err_from, unread_counts, unread_fails}
 use Rattle.time_desk.proofs.heads.head_before.Goals as goal
 
-pub returns-in-Ok-clause-read : goal.returns-in-Ok-clause-read
-returns-in-Ok-clause-read g c payloads payload holds lies begins number =
+pub returns-clause-read : goal.returns-clause-read
+returns-clause-read g c payloads payload holds lies begins number =
     let hole = c.args.hole in
     let end : ℕ = hole.from + hole.length in
     let whole : end + (c.args.place.length - end) ≡ c.args.place.length = omega (arith, c.requires.within) in
     let now = holds_on (g.D.Disk.told c.args.past.now.disk) (g.D.Disk.told c.read.new.self.disk) payloads c.read.ensures.still.reads holds in
     c.head_around.ensures.read payloads payload now lies begins number
-    (c.in-Ok.ensures.payload payloads payload holds lies ∙ ap (λ (n : ℕ). slice_range payload end n) whole)
+    (c.in_ok-back.ensures.payload payloads payload holds lies ∙ ap (λ (n : ℕ). slice_range payload end n) whole)
 
-pub returns-in-Err-clause-bad : goal.returns-in-Err-clause-bad
-returns-in-Err-clause-bad g c = subst (FailsReading ⊥ c.args.place.gate) (sym c.fault_of_read.ensures) (unread_fails ⊥ c.args.place.gate c.in-Err.fault)
+pub returns-in_err-back-clause-bad : goal.returns-in_err-back-clause-bad
+returns-in_err-back-clause-bad g c =
+    let p = err_from_is_err_and c.from_residual.result c.from_residual.ensures.1 in
+    if_err_from c.from_residual.result (FailsReading ⊥ c.args.place.gate) p.0 _ p.1 p.2 (unread_fails ⊥ c.args.place.gate c.in_err-back.field-0.0)
 
-pub returns-in-Err-clause-fault : goal.returns-in-Err-clause-fault
-returns-in-Err-clause-fault g c =
-    subst (ReadCounts (g.D.Disk.told c.args.past.now.disk) (g.D.Disk.told c.read.new.self.disk)) (sym c.fault_of_read.ensures) (unread_counts (g.D.Disk.told c.args.past.now.disk) (g.D.Disk.told c.read.new.self.disk) c.in-Err.fault c.in-Err.ensures.cause)
+pub returns-in_err-back-clause-fault : goal.returns-in_err-back-clause-fault
+returns-in_err-back-clause-fault g c =
+    let p = err_from_is_err_and c.from_residual.result c.from_residual.ensures.1 in
+    if_err_from c.from_residual.result (ReadCounts (g.D.Disk.told c.args.past.now.disk) (g.D.Disk.told c.read.new.self.disk)) p.0 _ p.1 p.2
+    (unread_counts (g.D.Disk.told c.args.past.now.disk) (g.D.Disk.told c.read.new.self.disk) c.in_err-back.field-0.0 c.in_err-back.ensures.cause)
