@@ -80,12 +80,8 @@ fn act_brings_no_filter(act: &Act) -> bool
     ensures { result ≡ brings_no_filter (Deed.Act act.now) }
 {
     match act {
-        Act::SetAlias { .. } => true,
-        Act::DropAlias { .. } => true,
         Act::SetFilter(_) => false,
-        Act::DropFilter { .. } => true,
-        Act::Remove { .. } => true,
-        Act::Give { .. } => true,
+        _ => true,
     }
 }
 
