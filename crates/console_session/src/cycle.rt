@@ -1,12 +1,9 @@
 //! Cycles: sealed, put in place and then answered; or only tried.
 //!
 //! A trial performs what the cycle would, and is refused as the cycle would be, but for its key, which it does not look at.
-ghost use Rattle.std.specs.Prelude.{◌≡◌, ◌≤◌, ◌<◌, IfOk, OnOk, IfErr, IsTrue, None, Ok, false};
+ghost use Rattle.std.specs.Prelude.{◌≡◌, ◌≤◌, ◌<◌, IsTrue, None, Ok, false};
 ghost use Rattle.store_kept.specs.Kept.{report_of};
 ghost use Rattle.repair_desk.specs.Repairs.{are_known};
-ghost use Rattle.seal_log.specs.Causes.{FindsMemory};
-ghost use Rattle.time_desk.specs.Cycling.{CycleWants, Cycles, CyclesNone};
-ghost use Rattle.desk_journal.specs.Reading.{ReadsWell};
 ghost use Rattle.console_replies.specs.Reports.{report_data};
 ghost use Rattle.console_http.specs.declared.request.Asked.TheVariants.{Whole};
 ghost use Rattle.console_http.specs.declared.request.Route.TheVariants as route;
@@ -65,8 +62,8 @@ pub(crate) fn tell_report<D: Disk>(alloc: Global, desk: &Desk<D>, report: &Repor
     )
 }
 
-/// Asks the desk for a cycle over a counter that is made of the blank ledger.
-fn rewind_over<D: Disk, R: Threads + Sync, G: Gate, L: Ledger>(
+/// A cycle under a new key, over a counter that is made of the blank ledger.
+fn rewind<D: Disk, R: Threads + Sync, G: Gate, L: Ledger>(
     rt: &R,
     alloc: Global,
     desk: &mut Desk<D>,
@@ -74,31 +71,10 @@ fn rewind_over<D: Disk, R: Threads + Sync, G: Gate, L: Ledger>(
     ask: CycleAsk,
     gate: &G,
     blank: Blank,
-) -> Result<Report, CycleFault>
+) -> Reply
     requires name { blank.name ≡ L.name }
     requires parts { blank.parts ≡ L.parts }
     requires some { 0 < blank.parts }
-    requires moment { at ≤ LAST_MOMENT }
-    requires known { IsTrue (are_known desk.old.kept.house ask.inserts) }
-    ensures done { IfOk result (λ report. Cycles D.told at ask desk.old desk.new report) }
-    ensures why { IfErr result (λ fault. CyclesNone D.told at ask desk.old desk.new fault) }
-    ensures same { OnOk result (ReadsWell D.told desk.old desk.new) }
-    ensures finds_memory { OnOk result (FindsMemory (D.told desk.old.disk) (D.told desk.new.disk)) }
-    ensures wants { IfErr result (λ fault. CycleWants D.told desk.old.disk desk.new.disk fault) }
-{
-    let mut steps: Steps<L> = Steps::new(blank);
-    desk.cycle(rt, alloc, at, ask, gate, &mut steps)
-}
-
-/// A cycle under a new key.
-fn rewind<D: Disk, R: Threads + Sync, G: Gate>(
-    rt: &R,
-    alloc: Global,
-    desk: &mut Desk<D>,
-    at: u64,
-    ask: CycleAsk,
-    gate: &G,
-) -> Reply
     requires open { desk.old.closed ≡ false }
     requires moment { at ≤ LAST_MOMENT }
     requires known { IsTrue (are_known desk.old.kept.house ask.inserts) }
@@ -106,7 +82,8 @@ fn rewind<D: Disk, R: Threads + Sync, G: Gate>(
     ensures { AnswersRequest D.told at (Ok (Whole (route.Cycle ask))) desk.old desk.new result }
 {
     seals_join::<D>();
-    match rewind_over::<D, R, G, Brand>(rt, alloc, desk, at, ask, gate, Blank::new(1)) {
+    let mut steps: Steps<L> = Steps::new(blank);
+    match desk.cycle(rt, alloc, at, ask, gate, &mut steps) {
         Ok(report) => tell_only(
             alloc,
             200,
@@ -134,7 +111,7 @@ pub fn cycle<D: Disk, R: Threads + Sync, G: Gate>(
     seals_join::<D>();
     match desk.report(&ask.key) {
         Some(report) => tell_report(alloc, desk, report),
-        None => rewind(rt, alloc, desk, at, ask, gate),
+        None => rewind::<D, R, G, Brand>(rt, alloc, desk, at, ask, gate, Blank::new(1)),
     }
 }
 

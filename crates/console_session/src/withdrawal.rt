@@ -1,9 +1,6 @@
 //! Withdrawals of the last cycle: sealed, put in place and then answered.
-ghost use Rattle.std.specs.Prelude.{◌≡◌, ◌≤◌, ◌<◌, IfOk, OnOk, IfErr, None, Ok, false};
+ghost use Rattle.std.specs.Prelude.{◌≡◌, ◌≤◌, ◌<◌, None, Ok, false};
 ghost use Rattle.store_kept.specs.Kept.{report_of};
-ghost use Rattle.seal_log.specs.Causes.{FindsMemory};
-ghost use Rattle.time_desk.specs.Withdrawing.{WithdrawalWants, Withdraws, WithdrawsNone};
-ghost use Rattle.desk_journal.specs.Reading.{ReadsWell};
 ghost use Rattle.console_http.specs.declared.request.Asked.TheVariants.{Whole};
 ghost use Rattle.console_http.specs.declared.request.Route.TheVariants as route;
 ghost use Rattle.console_session.specs.Hearing.{AnswersRequest, TellsWithdrawFault};
@@ -39,8 +36,8 @@ fn tell_fault(alloc: Global, fault: WithdrawFault, closed: bool) -> Reply
     }
 }
 
-/// Asks the desk for a withdrawal over a counter that is made of the blank ledger.
-fn withdraw_over<D: Disk, R: Threads + Sync, G: Gate, L: Ledger>(
+/// A withdrawal under a new key, over a counter that is made of the blank ledger.
+fn withdraw_anew<D: Disk, R: Threads + Sync, G: Gate, L: Ledger>(
     rt: &R,
     alloc: Global,
     desk: &mut Desk<D>,
@@ -49,38 +46,18 @@ fn withdraw_over<D: Disk, R: Threads + Sync, G: Gate, L: Ledger>(
     of: u32,
     gate: &G,
     blank: Blank,
-) -> Result<Report, WithdrawFault>
+) -> Reply
     requires name { blank.name ≡ L.name }
     requires parts { blank.parts ≡ L.parts }
     requires some { 0 < blank.parts }
-    requires moment { at ≤ LAST_MOMENT }
-    ensures done { IfOk result (λ report. Withdraws D.told at key.now of desk.old desk.new report) }
-    ensures why { IfErr result (λ fault. WithdrawsNone D.told at key.now of desk.old desk.new fault) }
-    ensures same { OnOk result (ReadsWell D.told desk.old desk.new) }
-    ensures finds_memory { OnOk result (FindsMemory (D.told desk.old.disk) (D.told desk.new.disk)) }
-    ensures wants { IfErr result (λ fault. WithdrawalWants D.told desk.old.disk desk.new.disk fault) }
-{
-    let mut steps: Steps<L> = Steps::new(blank);
-    desk.withdraw(rt, alloc, at, key, of, gate, &mut steps)
-}
-
-/// A withdrawal under a new key.
-fn withdraw_anew<D: Disk, R: Threads + Sync, G: Gate>(
-    rt: &R,
-    alloc: Global,
-    desk: &mut Desk<D>,
-    at: u64,
-    key: &Name,
-    of: u32,
-    gate: &G,
-) -> Reply
     requires open { desk.old.closed ≡ false }
     requires moment { at ≤ LAST_MOMENT }
     requires fresh { report_of desk.old.kept.reports key.now ≡ None }
     ensures { AnswersRequest D.told at (Ok (Whole (route.Withdraw key.now of))) desk.old desk.new result }
 {
     seals_join::<D>();
-    match withdraw_over::<D, R, G, Brand>(rt, alloc, desk, at, key, of, gate, Blank::new(1)) {
+    let mut steps: Steps<L> = Steps::new(blank);
+    match desk.withdraw(rt, alloc, at, key, of, gate, &mut steps) {
         Ok(report) => tell_only(
             alloc,
             200,
@@ -108,6 +85,6 @@ pub fn withdraw<D: Disk, R: Threads + Sync, G: Gate>(
     seals_join::<D>();
     match desk.report(key) {
         Some(report) => tell_report(alloc, desk, report),
-        None => withdraw_anew(rt, alloc, desk, at, key, of, gate),
+        None => withdraw_anew::<D, R, G, Brand>(rt, alloc, desk, at, key, of, gate, Blank::new(1)),
     }
 }

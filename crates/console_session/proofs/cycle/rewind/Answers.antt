@@ -9,11 +9,11 @@ use Rattle.console_session.proofs.cycle.rewind.Goals as goal
 
 pub returns-in-Ok : goal.returns-in-Ok
 returns-in-Ok g c =
-    cycle_done g.D.Disk.told c.args.at c.args.ask c.in-Ok.report c.args.desk.now c.rewind_over.new.desk c.tell_only.result c.requires.fresh c.in-Ok.ensures.done c.in-Ok.ensures.same c.in-Ok.ensures.finds_memory
+    cycle_done g.D.Disk.told c.args.at c.args.ask c.in-Ok.report c.args.desk.now c.cycle.new.self c.tell_only.result c.requires.fresh c.in-Ok.ensures.done c.in-Ok.ensures.same c.in-Ok.ensures.finds_memory
     (subst (λ (h : House). TellsOnly (answer 200 (report_data h c.in-Ok.report)) Rewinds c.tell_only.result) c.house.ensures.value
     (c.tell_only.ensures (report_data c.house.result.now c.in-Ok.report) c.report_json.ensures))
 
 pub returns-in-Err : goal.returns-in-Err
 returns-in-Err g c =
-    cycle_not_done g.D.Disk.told c.seals_join.ensures.still g.met.D.Disk.tells_truth c.args.at c.args.ask c.args.desk.now c.rewind_over.new.desk c.in-Err.fault c.tell_fault.result c.requires.open c.in-Err.ensures.why c.in-Err.ensures.wants
+    cycle_not_done g.D.Disk.told c.seals_join.ensures.still g.met.D.Disk.tells_truth c.args.at c.args.ask c.args.desk.now c.cycle.new.self c.in-Err.fault c.tell_fault.result c.requires.open c.in-Err.ensures.why c.in-Err.ensures.wants
     (subst (λ (b : Bool). TellsCycleFault b c.in-Err.fault c.tell_fault.result) c.closed.ensures c.tell_fault.ensures)
