@@ -14,7 +14,7 @@ ghost use Rattle.undo_outside.specs.declared.event.Role.TheVariants.{Pop};
 ghost use Rattle.host_outside.specs.Ports.{AskedFor, Row, row_of, rows_of, row_at};
 
 use crate::readiness::Readiness;
-use crate::telling::{meaning, name_of};
+use crate::telling::meaning;
 use mio::event::Iter;
 use std::alloc::Global;
 use std::net::{Ipv4Addr, Net, OpenListener, TcpListener};
@@ -171,7 +171,7 @@ impl<L> fmt::Display for Listeners<L> {
                 _ if place == last => " and ",
                 _ => ", ",
             };
-            write!(f, "{front}{} on port {}", name_of(port.role), port.number)?;
+            write!(f, "{front}{} on port {}", port.role.name(), port.number)?;
         }
         Ok(())
     }
@@ -199,7 +199,7 @@ fn listen<R: Net + Eprint>(
     match try_listen(net, readiness, role, asked) {
         Ok(port) => Some(port),
         Err(error) => {
-            let whose = name_of(role);
+            let whose = role.name();
             let meaning = meaning(&error);
             let _told = eprintln!(net;
                 "undomail: port {asked} of {whose} cannot be had: {meaning}{error}"

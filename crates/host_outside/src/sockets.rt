@@ -19,7 +19,7 @@ ghost use Rattle.undo_outside.specs.declared.event.What.TheVariants.{Joined};
 use crate::connection::{Connection, Received};
 use crate::listeners::{Arrived, Listeners};
 use crate::queue::Queue;
-use crate::telling::{Throttle, name_of, second};
+use crate::telling::{Throttle, second};
 use std::alloc::Global;
 use std::io::{self, ErrorKind, Read, Write};
 use std::mem;
@@ -125,7 +125,7 @@ impl<S: Read + Write + OpenStream + Drop> Seat<S> {
     /// What is spoken over its connection, and where the other side is.
     fn reader(&self) -> Option<(&'static str, SocketAddr)> {
         let connection = self.connection.as_ref()?;
-        Some((name_of(connection.role()), connection.peer()?))
+        Some((connection.role().name(), connection.peer()?))
     }
 
     /// Its connection was active at a visit in which that came.

@@ -8,7 +8,6 @@ ghost use Rattle.std.specs.Prelude.{◌≡◌, None, Some, IfSome, IfNone};
 use std::io::{self, ErrorKind};
 use std::mem;
 use std::time::Clock;
-use undo_outside::Role;
 
 /// Lets one line of a kind pass in each second, and counts those that it keeps back.
 #[derive(Debug, Drop)]
@@ -50,16 +49,6 @@ pub(crate) fn second<R: Clock>(rt: &R) -> u64 {
     match rt.monotonic() {
         Ok(time) => time.as_secs(),
         Err(_) => 0,
-    }
-}
-
-/// What is said of a role.
-pub(crate) fn name_of(role: Role) -> &'static str {
-    match role {
-        Role::Smtp => "SMTP",
-        Role::Imap => "IMAP",
-        Role::Http => "the console",
-        Role::Pop => "POP3",
     }
 }
 
