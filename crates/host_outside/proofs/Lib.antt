@@ -1,1 +1,3 @@
+mod Apart
 mod Known
+mod Told

@@ -1,5 +1,6 @@
 -- What happens at the seats of connections.
-use Rattle.std.specs.Prelude.{◌≡◌, ◌<◌, ◌+◌, nat_lt, if◌then◌else◌, ℕ, zero, suc, min, Bool, List, length, take, slice_index_or, slice_set, Option, Some, None, is_none, IsSome, IfSome, IsSomeAnd}
+use Rattle.std.specs.Prelude.{◌≡◌, ◌<◌, ◌+◌, nat_lt, if◌then◌else◌, ℕ, zero, suc, min, Bool, List, [], length, take, slice_index_or, slice_set, Option, Some, None, is_none, IsSome, IfSome, IsSomeAnd}
+use Rattle.undo_outside.specs.declared.event.Role.TheVariants.{Imap}
 use Rattle.undo_outside.specs.declared.event.What.{What}
 use Rattle.undo_outside.specs.declared.event.What.TheVariants.{Bytes, Left}
 use Rattle.host_outside.specs.declared.connection.Connection.{Connection}
@@ -7,7 +8,8 @@ use Rattle.host_outside.specs.declared.connection.Received.{Received}
 use Rattle.host_outside.specs.declared.connection.Received.TheVariants as came
 use Rattle.host_outside.specs.declared.sockets.Seat.{Seat}
 use Rattle.host_outside.specs.Ports.{Row}
-use Rattle.host_outside.specs.Streams.{IsExchanged, IsWhole}
+use Rattle.host_outside.specs.Searches.{IsApart, fresh, told}
+use Rattle.host_outside.specs.Streams.{IsExchanged, IsWhole, Stays}
 
 -- the seat of the connection of a number: they are counted from 1
 abbrev pub place_of : ℕ → Option ℕ
@@ -31,9 +33,9 @@ pub record Turns {S : Type 0} (place : ℕ) (P : Seat S → Seat S → Type 0) (
   pub changed : new ≡ slice_set old place after
   pub turned : P before after
 
--- a connection that came at this port sits there now
+-- a connection that came at this port sits there now, of which nothing was told or kept yet
 abbrev pub Fills : {S : Type 0} → Row → Seat S → Seat S → Type 0
-Fills (role, port) before after = IsSomeAnd after.connection (λ connection. (connection.role ≡ role) × (connection.port ≡ port))
+Fills (role, port) before after = IsSomeAnd after.connection (λ connection. (connection.role ≡ role) × (connection.port ≡ port) × (connection.kept ≡ []) × (connection.line ≡ fresh))
 
 -- the connection of the seat was sent a string, whole so far
 pub record IsSent {S : Type 0} (contents : S → Option (List ℕ)) (bytes : List ℕ) (before after : Seat S) : Type 0 where
@@ -42,6 +44,7 @@ pub record IsSent {S : Type 0} (contents : S → Option (List ℕ)) (bytes : Lis
   pub sat : before.connection ≡ Some old
   pub sits : after.connection ≡ Some new
   pub whole : IsWhole contents bytes old new
+  pub stays : Stays old new
 
 -- the connection of the seat, if there is one, is ended
 abbrev pub EndsConnection : {S : Type 0} → Seat S → Seat S → Type 0
@@ -62,6 +65,11 @@ abbrev pub Gives : {S : Type 0} → (S → Option (List ℕ)) → (S → Option 
 Gives {S} contents remaining seat buffer count =
     (old : Connection S) × (new : Connection S) × (seat.connection ≡ Some old) × IsExchanged contents remaining old new buffer (came.Bytes count)
 
+-- Where an IMAP client sits there, what came has one SEARCH at most, and so far its line was told.
+abbrev pub IsOneSearchAt : {S : Type 0} → Seat S → Seat S → List ℕ → ℕ → Type 0
+IsOneSearchAt before after buffer count = IfSome before.connection (λ old. old.role ≡ Imap →
+    IsApart old.line buffer count × IfSome after.connection (λ new. new.line ≡ told old.line (take count buffer)))
+
 -- whoever sits there now sat there as before
 abbrev pub SatBefore : {S : Type 0} → Seat S → Seat S → Type 0
 SatBefore {S} before after = (connection : Connection S) → after.connection ≡ Some connection → before.connection ≡ Some connection
@@ -74,6 +82,7 @@ IsLeft {S} seat = (connection : Connection S) → seat.connection ≡ Some conne
 pub record Receives {S : Type 0} (contents remaining : S → Option (List ℕ)) (buffer : List ℕ) (received : Received) (before after : Seat S) : Type 0 where
   pub given : (count : ℕ) → received ≡ came.Bytes count → Gives contents remaining before buffer count
   pub left : received ≡ came.Left → IsLeft after
+  pub one_search : (count : ℕ) → received ≡ came.Bytes count → IsOneSearchAt before after buffer count
 
 -- What came at the place is what is told.
 pub record Hears {S : Type 0} (contents remaining : S → Option (List ℕ)) (place : ℕ) (what : What) (old new : List (Seat S)) : Type 0 where

@@ -1,7 +1,8 @@
 -- What a connection does with its stream.
 use Rattle.std.specs.Prelude.{◌≡◌, ◌⊎◌, ℕ, ◌+◌, ◌<◌, ◌≤◌, false, true, List, ◌++◌, take, drop, length, Option, Some, IsSome, IfSome}
-use Rattle.std.specs.Io.KnownBytes.{Appends, Consumes, Keeps}
+use Rattle.std.specs.Io.KnownBytes.{Appends, Consumes, Keeps, prepend_known}
 use Rattle.host_outside.specs.declared.connection.Connection.{Connection}
+use Rattle.host_outside.specs.Searches.{IsApart, told}
 use Rattle.host_outside.specs.declared.connection.Received.{Received}
 use Rattle.host_outside.specs.declared.connection.Received.TheVariants.{Nothing, Bytes, Left}
 
@@ -38,9 +39,22 @@ IsGiven old new buffer Nothing = Keeps old new
 IsGiven old new buffer (Bytes count) = (0 < count) × (count ≤ length buffer) × Consumes old new (take count buffer)
 IsGiven old new buffer Left = Keeps old new
 
--- the stream took some of what waited, and then gave what came
+-- The stream took some of what waited. What came then is the front of what was kept of it, with what the stream had to give
+-- behind that, and nothing else was lost of these.
 pub record IsExchanged {S : Type 0} (contents remaining : S → Option (List ℕ)) (old new : Connection S) (buffer : List ℕ) (received : Received) : Type 0 where
   pub between : S
   pub count : ℕ
   pub sent : IsTaken count old.waiting new.waiting (contents old.stream) (contents between)
-  pub given : IsGiven (remaining between) (remaining new.stream) buffer received
+  pub given : IsGiven (prepend_known old.kept (remaining between)) (prepend_known new.kept (remaining new.stream)) buffer received
+
+-- what a connection does beside what it sends: its end, its role, what it keeps and how far its line was told stay as they are
+pub record Stays {S : Type 0} (old new : Connection S) : Type 0 where
+  pub ends_at : new.ends_at ≡ old.ends_at
+  pub role : new.role ≡ old.role
+  pub kept : new.kept ≡ old.kept
+  pub line : new.line ≡ old.line
+
+-- of an IMAP client's connection so many octets came, which hold one SEARCH at most, and so far its line was told
+pub record IsOneSearch {S : Type 0} (old new : Connection S) (buffer : List ℕ) (count : ℕ) : Type 0 where
+  pub apart : IsApart old.line buffer count
+  pub line : new.line ≡ told old.line (take count buffer)

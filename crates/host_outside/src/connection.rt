@@ -6,13 +6,20 @@
 //!
 //! A client that closes its side alone has left: what it sent before is served, and what was answered by then is still sent.
 //!
+//! Of what was read of an IMAP client one event tells one SEARCH at most (`line`). What follows is kept, and told before more is read.
+//! So the octets that come are the stream's, in its order. What is kept of a connection that ends is dropped.
+//!
 //! What a stream took or gave is said over std's `contents` and `remaining`, of which the sockets of this machine tell nothing.
 //! That a socket sends what it was written is trusted, as is its system.
-ghost use Rattle.std.specs.Prelude.{◌≡◌, ◌⊎◌, ◌<◌, ◌≤◌, ◌+◌, ℕ, true, false, Ok, IfOk, IsSome, IfSome, OnErr, is_err, length};
+ghost use Rattle.std.specs.Prelude.{◌≡◌, ◌⊎◌, ◌<◌, ◌≤◌, ◌+◌, ℕ, List, [], ◌++◌, Option, true, false, Ok, IfOk, IsSome, IfSome, OnErr, is_err, length, take};
 ghost use Rattle.std.specs.Result.{result_unwrap_or};
-ghost use Rattle.host_outside.specs.Streams.{IsExchanged, IsGiven, IsMissed, IsPassedOn, IsTaken, IsWhole, LingersOn};
+ghost use Rattle.std.specs.Io.KnownBytes.{prepend_known};
+ghost use Rattle.undo_outside.specs.declared.event.Role.TheVariants.{Imap};
+ghost use Rattle.host_outside.specs.Searches.{fresh};
+ghost use Rattle.host_outside.specs.Streams.{IsExchanged, IsGiven, IsMissed, IsOneSearch, IsPassedOn, IsTaken, IsWhole, LingersOn, Stays};
 ghost use Rattle.host_outside.specs.declared.connection.Received.TheVariants.{Nothing, Bytes, Left};
 
+use crate::line::{Line, event_in};
 use crate::listeners::Arrived;
 use crate::logins::logins_in;
 use crate::waiting::Waiting;
@@ -48,6 +55,10 @@ pub(crate) struct Connection<S> {
     port: u16,
     role: Role,
     waiting: Waiting,
+    /// What was read of it and is still to be told.
+    kept: Waiting,
+    /// How far its line was told, where it is an IMAP client's.
+    line: Line,
     /// Where it was closed here or the other side left: the second at which it is given up.
     ends_at: Option<u64>,
     /// All that waited was sent and the other side has left, or it was given up.
@@ -107,7 +118,7 @@ impl<S: Read + Write + OpenStream> Connection<S> {
     pub(crate) fn new(alloc: Global, arrived: Arrived<S>) -> io::Result<Connection<S>>
     where
         S: Drop,
-        ensures { IfOk result (λ it. (it.role ≡ arrived.role) × (it.port ≡ arrived.port)) }
+        ensures { IfOk result (λ it. (it.role ≡ arrived.role) × (it.port ≡ arrived.port) × (it.kept ≡ []) × (it.line ≡ fresh)) }
     {
         let Arrived { stream, role, port } = arrived;
         stream.set_nonblocking(true)?;
@@ -117,6 +128,8 @@ impl<S: Read + Write + OpenStream> Connection<S> {
             port,
             role,
             waiting: Waiting::new(alloc),
+            kept: Waiting::new(alloc),
+            line: Line::fresh(),
             ends_at: None,
             is_over: false,
             has_moved: false,
@@ -138,7 +151,7 @@ impl<S: Read + Write + OpenStream> Connection<S> {
     /// Sends a string, or keeps what is not taken yet. Answers whether it may still arrive whole. Then the stream took the front
     /// of what waited and the string behind it, the rest of these waits now, and the stream did not refuse them.
     pub(crate) fn send(&mut self, bytes: &[u8]) -> Result<bool, NoMemory>
-        ensures stays { self.new.ends_at ≡ self.old.ends_at }
+        ensures stays { Stays self.old self.new }
         ensures whole { result ≡ Ok true → IsWhole S.contents bytes.now self.old self.new }
         // It is missed only where the connection has ended, where more than 67,108,864 bytes wait, or where the stream refused.
         ensures missed { result ≡ Ok false → IsMissed self.old self.new }
@@ -159,7 +172,7 @@ impl<S: Read + Write + OpenStream> Connection<S> {
     /// Gives the stream what waits; a console's waits for its next visit. Answers whether the stream refused nothing so far.
     #[tactic(auto, using(crate::proofs::Known::kept, crate::proofs::Known::grown_by_none))]
     fn begin(&mut self) -> bool
-        ensures stays { self.new.ends_at ≡ self.old.ends_at }
+        ensures stays { Stays self.old self.new }
         ensures taken { result ≡ true → IsPassedOn S.contents self.old self.new }
         ensures refused { result ≡ false → self.new.is_broken ≡ true }
     {
@@ -169,13 +182,15 @@ impl<S: Read + Write + OpenStream> Connection<S> {
         self.flush().is_ok()
     }
 
-    /// A visit: sends what waits, and reads what came. Nothing comes any more of one that has ended, and one that left has
-    /// ended.
-    pub(crate) fn receive(&mut self, now: u64, buf: &mut [u8]) -> Received
+    /// A visit: sends what waits, and reads what came, which may be kept in the room that is lent. Nothing comes any more of one
+    /// that has ended, and one that left has ended.
+    pub(crate) fn receive(&mut self, now: u64, buf: &mut [u8], room: &mut Vec<u8>) -> Received
         ensures ended { IsSome self.old.ends_at → result ≡ Nothing }
         ensures left { result ≡ Left → IsSome self.new.ends_at }
         ensures stays { IsSome self.old.ends_at → IsSome self.new.ends_at }
         ensures came { (count : ℕ) → result ≡ Bytes count → IsExchanged S.contents S.remaining self.old self.new buf.new (Bytes count) }
+        // Of an IMAP client comes one SEARCH at most.
+        ensures one_search { self.old.role ≡ Imap → (count : ℕ) → result ≡ Bytes count → IsOneSearch self.old self.new buf.new count }
         // Nothing comes where more than 1,048,576 bytes wait.
         ensures unread { 1048576 < length self.new.waiting → (count : ℕ) → result ≡ Bytes count → ⊥ }
         // One that ends is given up once it has taken nothing for ten seconds.
@@ -187,7 +202,7 @@ impl<S: Read + Write + OpenStream> Connection<S> {
             self.go_on_ending(now, buf);
             return Received::Nothing;
         }
-        let received = self.exchange(buf);
+        let received = self.exchange(buf, room);
         if matches!(&received, Received::Left) {
             self.end(now);
             self.go_on_ending(now, buf);
@@ -200,6 +215,7 @@ impl<S: Read + Write + OpenStream> Connection<S> {
         ensures { IfSome self.new.ends_at (λ end. end ≤ now + 10) × IsSome self.new.ends_at }
     {
         self.ends_at = Some(now.saturating_add(LINGER));
+        self.kept.clear();
         if !self.is_console() {
             self.is_over = self.send_last().is_err();
         }
@@ -247,11 +263,12 @@ impl<S: Read + Write + OpenStream> Connection<S> {
         Ok(count)
     }
 
-    /// Sends what waits, and reads what came, unless too much waits.
+    /// Sends what waits, and takes what came, unless too much waits.
     #[tactic(auto, using(crate::proofs::Known::kept))]
-    fn exchange(&mut self, buf: &mut [u8]) -> Received
+    fn exchange(&mut self, buf: &mut [u8], room: &mut Vec<u8>) -> Received
         ensures stays { self.new.ends_at ≡ self.old.ends_at }
         ensures exchanged { IsExchanged S.contents S.remaining self.old self.new buf.new result }
+        ensures one_search { self.old.role ≡ Imap → (count : ℕ) → result ≡ Bytes count → IsOneSearch self.old self.new buf.new count }
         ensures unread { 1048576 < length self.new.waiting → (count : ℕ) → result ≡ Bytes count → ⊥ }
     {
         if self.flush().is_err() {
@@ -260,12 +277,79 @@ impl<S: Read + Write + OpenStream> Connection<S> {
         if self.waiting.len() > MOST_UNREAD {
             return Received::Nothing;
         }
-        read_some(&mut self.stream, buf)
+        self.take(buf, room)
+    }
+
+    /// Takes what was kept, or else reads what came. Nothing is read where there is no room to keep it.
+    #[tactic(auto, using(crate::proofs::Known::kept))]
+    fn take(&mut self, buf: &mut [u8], room: &mut Vec<u8>) -> Received
+        ensures same { self.new ≡ record self.old { stream = self.new.stream; kept = self.new.kept; line = self.new.line } }
+        ensures given { IsGiven (prepend_known self.old.kept (S.remaining self.old.stream)) (prepend_known self.new.kept (S.remaining self.new.stream)) buf.new result }
+        ensures one_search { self.old.role ≡ Imap → (count : ℕ) → result ≡ Bytes count → IsOneSearch self.old self.new buf.new count }
+    {
+        if self.kept.len() > 0 {
+            return self.take_kept(buf);
+        }
+        if room.len() < buf.len() {
+            return Received::Nothing;
+        }
+        match read_some(&mut self.stream, buf) {
+            Received::Nothing => Received::Nothing,
+            Received::Bytes(count) => Received::Bytes(self.tell_and_keep(buf, count, room)),
+            Received::Left => Received::Left,
+        }
+    }
+
+    /// Takes of what was kept.
+    fn take_kept(&mut self, buf: &mut [u8]) -> Received
+        requires { 0 < length self.old.kept }
+        ensures same { self.new ≡ record self.old { kept = self.new.kept; line = self.new.line } }
+        ensures given { (u : Option (List ℕ)) → IsGiven (prepend_known self.old.kept u) (prepend_known self.new.kept u) buf.new result }
+        ensures one_search { self.old.role ≡ Imap → (count : ℕ) → result ≡ Bytes count → IsOneSearch self.old self.new buf.new count }
+    {
+        let count = self.kept.len().min(buf.len());
+        if count == 0 {
+            return Received::Nothing;
+        }
+        buf[..count].copy_from_slice(&self.kept.bytes()[..count]);
+        let told = self.tell(buf, count);
+        self.kept.sent(told);
+        Received::Bytes(told)
+    }
+
+    /// How many of the octets that came are told, of which the others are kept.
+    fn tell_and_keep(&mut self, buf: &[u8], count: usize, room: &mut Vec<u8>) -> usize
+        requires { (0 < count) × (count ≤ length buf.now) × (length buf.now ≤ length room.old.items) × (self.old.kept ≡ []) }
+        ensures same { self.new ≡ record self.old { kept = self.new.kept; line = self.new.line } }
+        ensures told { (0 < result) × (result ≤ count) }
+        ensures kept { take result buf.now ++ self.new.kept ≡ take count buf.now }
+        ensures one_search { self.old.role ≡ Imap → IsOneSearch self.old self.new buf.now result }
+    {
+        let told = self.tell(buf, count);
+        if told < count {
+            self.kept.keep(&buf[told..count], room);
+        }
+        told
+    }
+
+    /// How many of the octets that came are told: all, but for an IMAP client's.
+    fn tell(&mut self, buf: &[u8], count: usize) -> usize
+        requires { (0 < count) × (count ≤ length buf.now) }
+        ensures same { self.new ≡ record self.old { line = self.new.line } }
+        ensures told { (0 < result) × (result ≤ count) }
+        ensures one_search { self.old.role ≡ Imap → IsOneSearch self.old self.new buf.now result }
+    {
+        if !matches!(self.role, Role::Imap) {
+            return count;
+        }
+        let (told, line) = event_in(self.line, buf, count);
+        self.line = line;
+        told
     }
 
     /// Sends what is taken of what waits, and answers how much that was: so much goes from its front. Notes a refusal.
     fn flush(&mut self) -> io::Result<usize>
-        ensures stays { self.new.ends_at ≡ self.old.ends_at }
+        ensures stays { Stays self.old self.new }
         ensures sent { IsTaken (result_unwrap_or result 0) self.old.waiting self.new.waiting (S.contents self.old.stream) (S.contents self.new.stream) }
         ensures noted { self.new.is_broken ≡ is_err result }
         ensures moved { self.new.has_moved ≡ false → IfOk result (λ count. count ≡ 0) }
@@ -278,7 +362,7 @@ impl<S: Read + Write + OpenStream> Connection<S> {
     /// Writes what waits to the stream, once. None of it taken, where some waits, is a failure.
     #[tactic(auto, using(crate::proofs::Known::kept, crate::proofs::Known::grown_by_none))]
     fn write_waiting(&mut self) -> io::Result<usize>
-        ensures stays { self.new.ends_at ≡ self.old.ends_at }
+        ensures stays { Stays self.old self.new }
         ensures sent { IsTaken (result_unwrap_or result 0) self.old.waiting self.new.waiting (S.contents self.old.stream) (S.contents self.new.stream) }
         ensures moved { self.new.has_moved ≡ false → IfOk result (λ count. count ≡ 0) }
     {

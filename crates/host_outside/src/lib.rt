@@ -14,6 +14,7 @@
 mod calls;
 mod connection;
 mod file_disk;
+mod line;
 mod listeners;
 mod locks;
 mod logins;

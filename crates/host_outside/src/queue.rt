@@ -6,12 +6,13 @@
 //!
 //! In a round come the ports, where somebody may wait: the system told of one, a seat became free, or a second has passed. One at
 //! which connections wait stays next until none does. Then comes each that was called when the round began, once, in the order of
-//! the calls. Before them come those that are told of in the round and were not active in it. So whoever was silent waits for one
-//! event, and not for a round. In each millisecond the system is asked without waiting. Each second all seats are gone through,
+//! the calls. Before them come those that are told of in the round and were not active in it, and of these first who was not
+//! active in the last one either. So whoever was silent waits for one event, and not for a
+//! round, and who is active in each has one event in each. In each millisecond the system is asked without waiting. Each second all seats are gone through,
 //! and those visited whose connection ends, so that they are given up in time. Each eighth time all others are visited too, so
 //! that something of which the system did not tell would be found all the same.
 ghost use Rattle.std.specs.Prelude.{◌≡◌, ◌∷◌, [], IfNone, IfSome};
-ghost use Rattle.host_outside.specs.Queue.{Adds, all_of, due_of, is_calm};
+ghost use Rattle.host_outside.specs.Queue.{Adds, Wakes, all_of, due_of, is_calm, is_quiet};
 
 use std::alloc::Global;
 use std::collections::VecDeque;
@@ -29,7 +30,9 @@ struct Mark {
 /// A queue of places, each once, that is gone through in rounds: who stands in it as a round begins is visited in it.
 #[derive(Drop)]
 pub(crate) struct Queue {
-    /// Those that are visited before all others, still in this round.
+    /// Those that were active neither in this round nor in the last one, and are visited before all others, still in this one.
+    quiet: VecDeque<usize>,
+    /// Those that were not active in this round, and are visited before the rest, still in this one.
     first: VecDeque<usize>,
     rest: VecDeque<usize>,
     /// So many of the rest are still to be visited in this round.
@@ -45,6 +48,7 @@ impl Queue {
         ensures { all_of result ≡ [] }
     {
         Queue {
+            quiet: VecDeque::new(alloc),
             first: VecDeque::new(alloc),
             rest: VecDeque::new(alloc),
             due: 0,
@@ -57,6 +61,7 @@ impl Queue {
     pub(crate) fn make(&mut self, count: usize) -> Result<(), NoMemory>
         ensures { all_of self.new ≡ all_of self.old }
     {
+        self.quiet.reserve(count)?;
         self.first.reserve(count)?;
         self.rest.reserve(count)?;
         self.marks = marks_of(*self.marks.allocator(), count)?;
@@ -67,7 +72,7 @@ impl Queue {
     pub(crate) fn is_empty(&self) -> bool
         ensures { result ≡ is_calm self.now }
     {
-        self.first.is_empty() && self.rest.is_empty()
+        self.quiet.is_empty() && self.first.is_empty() && self.rest.is_empty()
     }
 
     /// Whether a place stands in it.
@@ -76,7 +81,9 @@ impl Queue {
     }
 
     /// A place is visited in the next round, behind those that are called already.
-    pub(crate) fn call(&mut self, place: usize) {
+    pub(crate) fn call(&mut self, place: usize)
+        ensures { self.new ≡ record self.old { rest = self.new.rest; marks = self.new.marks } }
+    {
         if !self.has(place) {
             let is_called = self.push(place);
             self.mark(place, is_called);
@@ -92,13 +99,38 @@ impl Queue {
         self.call(place);
     }
 
-    /// There is something at a place. One that was not active in this round comes first in it.
-    pub(crate) fn wake(&mut self, place: usize) {
+    /// There is something at a place. One that was not active in this round comes in it still, and first where it was not in
+    /// the last one either.
+    pub(crate) fn wake(&mut self, place: usize)
+        ensures { Wakes place self.old self.new }
+    {
         if self.has(place) || self.was_active(place) {
             self.call(place);
         } else {
-            let is_called = self.push_first(place);
+            let is_called = self.push_early(place);
             self.mark(place, is_called);
+        }
+    }
+
+    /// Adds a place before the rest, for this round. Answers whether there was memory for it.
+    fn push_early(&mut self, place: usize) -> bool
+        ensures { Wakes place self.old self.new }
+        ensures marks { self.new.marks ≡ self.old.marks }
+    {
+        if self.was_quiet(place) {
+            self.push_quiet(place)
+        } else {
+            self.push_first(place)
+        }
+    }
+
+    /// It was active neither in this round nor in the last one.
+    fn was_quiet(&self, place: usize) -> bool
+        ensures { result ≡ is_quiet place self.now }
+    {
+        match self.marks.get(place) {
+            Some(mark) => mark.active < self.round.saturating_sub(1),
+            None => false,
         }
     }
 
@@ -125,6 +157,14 @@ impl Queue {
         self.rest.push_back(place).is_ok()
     }
 
+    /// Adds a place behind others that were quiet, for this round. Answers whether there was memory for it.
+    fn push_quiet(&mut self, place: usize) -> bool
+        ensures quiet { Adds result place self.old.quiet.items self.new.quiet.items }
+        ensures others { self.new ≡ record self.old { quiet = self.new.quiet } }
+    {
+        self.quiet.push_back(place).is_ok()
+    }
+
     /// Adds a place before the rest, for this round. Answers whether there was memory for it.
     fn push_first(&mut self, place: usize) -> bool
         ensures first { Adds result place self.old.first.items self.new.first.items }
@@ -135,7 +175,7 @@ impl Queue {
 
     /// Whether a place is left for this round.
     pub(crate) fn is_due(&self) -> bool {
-        self.due > 0 || !self.first.is_empty()
+        self.due > 0 || !self.first.is_empty() || !self.quiet.is_empty()
     }
 
     /// Takes out the next place of this round, if there is one left.
@@ -152,6 +192,18 @@ impl Queue {
         ensures some { IfSome result (λ place. due_of self.old ≡ place ∷ due_of self.new) }
         ensures none { IfNone result (due_of self.old ≡ []) }
     {
+        match self.quiet.pop_front() {
+            Some(place) => Some(place),
+            None => self.pop_of_first(),
+        }
+    }
+
+    /// The next place of those that were not quiet.
+    fn pop_of_first(&mut self) -> Option<usize>
+        requires { self.old.quiet.items ≡ [] }
+        ensures some { IfSome result (λ place. due_of self.old ≡ place ∷ due_of self.new) }
+        ensures none { IfNone result (due_of self.old ≡ []) }
+    {
         match self.first.pop_front() {
             Some(place) => Some(place),
             None => self.pop_of_rest(),
@@ -160,7 +212,7 @@ impl Queue {
 
     /// The next place of the rest, if it is due in this round.
     fn pop_of_rest(&mut self) -> Option<usize>
-        requires { self.old.first.items ≡ [] }
+        requires { (self.old.quiet.items ≡ []) × (self.old.first.items ≡ []) }
         ensures some { IfSome result (λ place. due_of self.old ≡ place ∷ due_of self.new) }
         ensures none { IfNone result (due_of self.old ≡ []) }
     {

@@ -11,7 +11,7 @@ ghost use Rattle.std.specs.Option.{option_map, option_and_then};
 ghost use Rattle.host_outside.specs.Ports.{AskedFor, Row, row_at};
 ghost use Rattle.host_outside.specs.Ports as seats;
 ghost use Rattle.host_outside.specs.Queue.{longest_wait};
-ghost use Rattle.host_outside.specs.Seats.{EndsConnection, Fills, Gives, Hears, IsLeft, IsSent, Receives, SatBefore, Turns, is_free, told_of};
+ghost use Rattle.host_outside.specs.Seats.{EndsConnection, Fills, Gives, Hears, IsLeft, IsOneSearchAt, IsSent, Receives, SatBefore, Turns, is_free, told_of};
 ghost use Rattle.host_outside.specs.declared.connection.Received.TheVariants as came;
 ghost use Rattle.host_outside.specs.Seats as spec;
 ghost use Rattle.undo_outside.specs.declared.event.What.TheVariants.{Joined};
@@ -89,12 +89,13 @@ impl<S: Read + Write + OpenStream + Drop> Seat<S> {
     }
 
     /// Sends what waits for its connection, and takes what came over it.
-    fn receive(&mut self, now: u64, buf: &mut [u8]) -> Received
+    fn receive(&mut self, now: u64, buf: &mut [u8], room: &mut Vec<u8>) -> Received
         ensures given { (count : ℕ) → result ≡ came.Bytes count → Gives S.contents S.remaining self.old buf.new count }
         ensures left { result ≡ came.Left → IsLeft self.new }
+        ensures one_search { (count : ℕ) → result ≡ came.Bytes count → IsOneSearchAt self.old self.new buf.new count }
     {
         match &mut self.connection {
-            Some(connection) => connection.receive(now / 1000, buf),
+            Some(connection) => connection.receive(now / 1000, buf, room),
             None => Received::Nothing,
         }
     }
@@ -171,6 +172,8 @@ pub(crate) struct Sockets<R: Net> {
     seats: Vec<Seat<R::Stream>>,
     /// Where the next bytes are read into.
     spare: Vec<u8>,
+    /// Where those are kept that a SEARCH leaves for later.
+    room: Vec<u8>,
     /// The seats that may have something.
     queue: Queue,
     /// The listener that is looked at next, the first being 0: behind the last until somebody may wait there.
@@ -211,6 +214,7 @@ impl<R: Net + Clock + Eprint> Sockets<R> {
             listeners: None,
             seats: Vec::new(alloc),
             spare: Vec::new(alloc),
+            room: Vec::new(alloc),
             queue: Queue::new(alloc),
             listener: 0,
             looked: 0,
@@ -331,6 +335,9 @@ impl<R: Net + Clock + Eprint> Sockets<R> {
     fn make_ready(&mut self) -> Result<(), NoMemory> {
         if self.spare.is_empty() {
             self.spare = vec![in self.alloc; 0; MOST_BYTES]?;
+        }
+        if self.room.len() < MOST_BYTES {
+            self.room = vec![in self.alloc; 0; MOST_BYTES]?;
         }
         if self.seats.is_empty() {
             self.seats = make_seats(self.alloc)?;
@@ -536,7 +543,7 @@ impl<R: Net + Clock + Eprint> Sockets<R> {
         ensures { IfSome result (λ received. Turns place (Receives R.Stream.contents R.Stream.remaining self.new.spare.items received) self.old.seats.items self.new.seats.items) }
     {
         let seat = self.seats.get_mut(place)?;
-        let received = seat.receive(now, &mut self.spare);
+        let received = seat.receive(now, &mut self.spare, &mut self.room);
         let is_active = seat.is_active(&received);
         let is_left = seat.free();
         self.settle(place, is_active, is_left);

@@ -1,11 +1,13 @@
-//! The bytes that wait to be sent over a connection, in order.
+//! Bytes that wait, in order: to be sent over a connection, or to be told of it.
 //!
 //! What a slow reader does not take is kept. While more than 1,048,576 bytes wait for a connection it is not read; while more
-//! than 67,108,864 wait, a further string is missed. So a single answer is never cut.
+//! than 67,108,864 wait, a further string is missed. So a single answer is never cut. What was read of an IMAP client behind a
+//! SEARCH is kept for its next visit, in room that was had before.
 ghost use Rattle.std.specs.Prelude.{◌≡◌, ◌≤◌, ◌++◌, [], length, drop, OnOk, OnErr};
 
 use std::alloc::Global;
 use std::marker::Model;
+use std::mem;
 use undo_base::NoMemory;
 
 /// A queue of bytes, seen as the list of those that were not sent yet.
@@ -66,8 +68,26 @@ impl Waiting {
     {
         self.sent += count;
         if self.sent == self.bytes.len() {
-            *self = Waiting::new(*self.bytes.allocator());
+            self.clear();
         }
+    }
+
+    /// These bytes alone wait, in room that is large enough for them. No memory is taken.
+    pub(crate) fn keep(&mut self, bytes: &[u8], room: &mut Vec<u8>)
+        requires { length bytes.now ≤ length room.old.items }
+        ensures { self.new ≡ bytes.now }
+    {
+        room.truncate(bytes.len());
+        room.copy_from_slice(bytes);
+        mem::swap(&mut self.bytes, room);
+        self.sent = 0;
+    }
+
+    /// Nothing waits any more.
+    pub(crate) fn clear(&mut self)
+        ensures { self.new ≡ [] }
+    {
+        *self = Waiting::new(*self.bytes.allocator());
     }
 
     /// Lets go of what was sent.

@@ -8,4 +8,5 @@ returns-in-Some g c e = record {
   sat = c.in-Some.is;
   sits = refl;
   whole = c.send.ensures.whole e;
+  stays = c.send.ensures.stays;
 }

@@ -1,6 +1,7 @@
 use Rattle.std.proofs.Common.{rules, ap, sym, subst, ◌∙◌, length, drop}
 use Rattle.std.proofs.lemmas.List.{take_at}
-use Rattle.host_outside.specs.Seats.{Gives}
+use Rattle.host_outside.specs.Seats.{Gives, IsOneSearchAt}
+use Rattle.host_outside.proofs.Told.{one_search_of}
 use Rattle.host_outside.proofs.sockets.Sockets.visit.Goals as goal
 
 pub returns : goal.returns
@@ -18,6 +19,11 @@ returns g c =
         given = λ count e.
             subst (λ bytes. Gives g.R.Stream.Write.contents g.R.Stream.Read.remaining c.in_ok-seat.seat.now bytes count)
             (sym is_buffer) (c.receive-received.ensures.given count e);
+        one_search = λ count e.
+            subst (λ bytes. IsOneSearchAt c.in_ok-seat.seat.now c.free-is_left.new.self bytes count)
+            (sym is_buffer)
+            (one_search_of c.in_ok-seat.seat.now c.receive-received.new.self c.free-is_left.new.self buffer count
+                (c.receive-received.ensures.one_search count e) c.free-is_left.ensures.same);
         left = λ e connection sits. c.receive-received.ensures.left e connection (c.free-is_left.ensures.same connection sits);
       };
     }
