@@ -1,3 +1,2 @@
-mod Apart
 mod Known
 mod Told

@@ -264,7 +264,7 @@ impl<S: Read + Write + OpenStream> Connection<S> {
     }
 
     /// Sends what waits, and takes what came, unless too much waits.
-    #[tactic(auto, using(crate::proofs::Known::kept))]
+    #[tactic(auto, using(crate::proofs::Known::kept, crate::proofs::Known::still_to_come))]
     fn exchange(&mut self, buf: &mut [u8], room: &mut Vec<u8>) -> Received
         ensures stays { self.new.ends_at ≡ self.old.ends_at }
         ensures exchanged { IsExchanged S.contents S.remaining self.old self.new buf.new result }
@@ -281,7 +281,7 @@ impl<S: Read + Write + OpenStream> Connection<S> {
     }
 
     /// Takes what was kept, or else reads what came. Nothing is read where there is no room to keep it.
-    #[tactic(auto, using(crate::proofs::Known::kept))]
+    #[tactic(auto, using(crate::proofs::Known::kept, crate::proofs::Known::still_to_come, crate::proofs::Known::told_of_new))]
     fn take(&mut self, buf: &mut [u8], room: &mut Vec<u8>) -> Received
         ensures same { self.new ≡ record self.old { stream = self.new.stream; kept = self.new.kept; line = self.new.line } }
         ensures given { IsGiven (prepend_known self.old.kept (S.remaining self.old.stream)) (prepend_known self.new.kept (S.remaining self.new.stream)) buf.new result }

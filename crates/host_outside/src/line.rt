@@ -5,7 +5,7 @@
 //! line: this one, or that of a SEARCH whose literal came before. The first octets of a line may have been told already: so it
 //! is known of each line whether it has the word, and how much of it the last octets spell. A text that has the word is only
 //! cut smaller.
-ghost use Rattle.std.specs.Prelude.{◌≡◌, ◌<◌, ◌≤◌, length, take};
+ghost use Rattle.std.specs.Prelude.{◌≡◌, ◌<◌, ◌≤◌, ◌+◌, length, take};
 ghost use Rattle.host_outside.specs.Searches.{IsApart};
 ghost use Rattle.host_outside.specs.Searches as spec;
 

@@ -114,7 +114,7 @@ impl Queue {
 
     /// Adds a place before the rest, for this round. Answers whether there was memory for it.
     fn push_early(&mut self, place: usize) -> bool
-        ensures { Wakes place self.old self.new }
+        ensures order { Wakes place self.old self.new }
         ensures marks { self.new.marks ≡ self.old.marks }
     {
         if self.was_quiet(place) {

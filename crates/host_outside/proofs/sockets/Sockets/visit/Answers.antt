@@ -23,7 +23,7 @@ returns g c =
             subst (λ bytes. IsOneSearchAt c.in_ok-seat.seat.now c.free-is_left.new.self bytes count)
             (sym is_buffer)
             (one_search_of c.in_ok-seat.seat.now c.receive-received.new.self c.free-is_left.new.self buffer count
-                (c.receive-received.ensures.one_search count e) c.free-is_left.ensures.same);
+            (c.receive-received.ensures.one_search count e) c.free-is_left.ensures.same);
         left = λ e connection sits. c.receive-received.ensures.left e connection (c.free-is_left.ensures.same connection sits);
       };
     }
