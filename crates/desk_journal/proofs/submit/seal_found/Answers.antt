@@ -21,8 +21,8 @@ pub returns-in-Ok-clause-noted : goal.returns-in-Ok-clause-noted
 returns-in-Ok-clause-noted g c =
     noted_on c.args.journal.now.gate c.seal_ready.new.journal.gate c.args.found.bytes c.args.desk.now c.seal_ready.new.desk c.in-Ok.ensures.sealed.next c.in-Ok.ensures.noted
 
-pub returns-clause-noted : goal.returns-clause-noted
-returns-clause-noted g c =
+pub returns-in-Err-clause-noted : goal.returns-in-Err-clause-noted
+returns-in-Err-clause-noted g c =
     noted_same c.args.journal.now.gate c.seal_ready.new.journal.gate c.args.desk.now c.seal_ready.new.desk c.in-Err.ensures.sealed.err
     (ap (λ (h : Held). h.kept) c.in-Err.ensures.same) (ap (λ (h : Held). h.notes) c.in-Err.ensures.same)
 
@@ -30,20 +30,20 @@ pub returns-in-Ok-clause-marked : goal.returns-in-Ok-clause-marked
 returns-in-Ok-clause-marked g c =
     marked_on c.args.journal.now.gate c.seal_ready.new.journal.gate c.args.found.bytes c.args.desk.now c.seal_ready.new.desk c.in-Ok.ensures.sealed.next c.in-Ok.ensures.marks
 
-pub returns-clause-marked : goal.returns-clause-marked
-returns-clause-marked g c =
+pub returns-in-Err-clause-marked : goal.returns-in-Err-clause-marked
+returns-in-Err-clause-marked g c =
     marked_same c.args.journal.now.gate c.seal_ready.new.journal.gate c.args.desk.now c.seal_ready.new.desk c.in-Err.ensures.sealed.err (ap (λ (h : Held). h.marks) c.in-Err.ensures.same)
 
-pub returns-clause-err : goal.returns-clause-err
-returns-clause-err g c =
+pub returns-in-Err-clause-err : goal.returns-in-Err-clause-err
+returns-in-Err-clause-err g c =
     let old = c.args.desk.now in
     let new = c.seal_ready.new.desk in
     submits_none g.D.Disk.told c.args.found.ready.item (lasting old c.args.journal.now) (lasting new c.seal_ready.new.journal) c.in-Err.fault c.fault_of.result c.requires.open c.fault_of.ensures
     (not_sealed g.D.Disk.told (Verb c.args.found.ready.item) c.args.found.bytes (performed old.kept c.args.found.ready.item) old new c.args.journal.now c.seal_ready.new.journal c.in-Err.fault c.requires.record
     (ap (λ (h : Held). h.kept) c.in-Err.ensures.same) (ap (λ (h : Held). h.notes) c.in-Err.ensures.same) (ap (λ (h : Held). h.marks) c.in-Err.ensures.same) c.requires.open c.in-Err.ensures.sealed)
 
-pub returns-clause-refuses_none : goal.returns-clause-refuses_none
-returns-clause-refuses_none g c = outcome_refuses_none c.in-Err.fault c.fault_of.result c.fault_of.ensures
+pub returns-in-Err-clause-refuses_none : goal.returns-in-Err-clause-refuses_none
+returns-in-Err-clause-refuses_none g c = outcome_refuses_none c.in-Err.fault c.fault_of.result c.fault_of.ensures
 
-pub returns-clause-wants : goal.returns-clause-wants
-returns-clause-wants g c = submit_wants g.D.Disk.told c.args.journal.now.disk c.seal_ready.new.journal.disk c.in-Err.fault c.fault_of.result c.fault_of.ensures c.in-Err.ensures.sealed.wants
+pub returns-in-Err-clause-wants : goal.returns-in-Err-clause-wants
+returns-in-Err-clause-wants g c = submit_wants g.D.Disk.told c.args.journal.now.disk c.seal_ready.new.journal.disk c.in-Err.fault c.fault_of.result c.fault_of.ensures c.in-Err.ensures.sealed.wants
