@@ -19,9 +19,10 @@ use Rattle.mail_loop.specs.Afterwards.{both_follow, taking}
 use Rattle.mail_loop.specs.ConsoleTurn.{no_consoles}
 use Rattle.mail_loop.specs.TurnCounts.{both_counted, none_counted}
 use Rattle.mail_loop.specs.Hindrance.{Clear, Hindrance, first_hindrance, other_hindrances}
+use Rattle.mail_loop.specs.ImapTurn.{imap_session}
 use Rattle.mail_loop.specs.PopTurn.{pop_session}
 use Rattle.mail_loop.specs.State.{Imap, Pop, Seat, Smtp, State}
-use Rattle.mail_loop.specs.Turns.{Heard, Outcome, after, goes_on, heard_by, hears_commands, hears_seat, imap_turn, none_yet, smtp_turn, turn_of, turns}
+use Rattle.mail_loop.specs.Turns.{Heard, Outcome, after, goes_on, heard_by, hears_seat, hears_turns, imap_source, imap_turn, none_yet, smtp_turn, turn_of, turns}
 use Rattle.mail_loop.proofs.Sealed.{no_more, none_before, counts_regroup}
 use Rattle.dialog_laws.specs.Joined.{hears_then, joined}
 
@@ -160,7 +161,7 @@ pop_client_events_join lines rest hs stage at conn s unserved d first second =
 -- ---- an IMAP client's
 
 -- a reader's turns, but for the one of what is not whole yet
-reader_heard : (at conn : ℕ) (s : State) (d : ImapDialog) (stream : Stream) → hears_commands [] at s conn d stream ≡ heard_by (Imap (emptied stream)) (turns (imap_turn at conn) [] s d stream.said)
+reader_heard : (at conn : ℕ) (s : State) (d : ImapDialog) (stream : Stream) → hears_turns imap_source imap_session [] at s conn d stream ≡ heard_by (Imap (emptied stream)) (turns (imap_turn at conn) [] s d stream.said)
 reader_heard at conn s d stream = ap (heard_by (Imap (emptied stream))) (quiet_last (imap_turn at conn) NotYet (λ t e. refl) s d stream.said)
 
 split : (stream : Stream) (first second : List ℕ) → imap_stream.heard (emptied stream) (first ++ second)

@@ -426,18 +426,6 @@ module _ {D : Type 0} (speech : Speech D) where
       by_wrote (inr (out_of_memory, seals)) (inr (inl t)) = (UnwrittenUnheard, unwritten_untold seals t)
       by_wrote (inr (out_of_memory, seals)) (inr (inr t)) = (Unwritten, refused (without_writes kept (service at kept)) NoMemory 1 seals t.1)
 
-  -- the same, of an ask whose asker was told
-  pub asked_turn_by : (S : List JournalRecord → TurnCounts → Type 0) (at : ℕ) (kept kept' : Kept) (by : Option User) (ask : Ask) (d e : D) (outcome : Result Item SubmitFault) (old old' new : Reply) (T : Service → Asked → Turn D) → Concludes kept d T
-      → by ≡ speech.user d
-      → speech.is_due d ≡ true
-      → NoneGone kept
-      → old' ≡ record old { gone = old.gone ++ gone_between kept kept' }
-      → Submits S at kept by ask kept' outcome
-      → Settles speech outcome kept' d old' e new
-      → (h : Hindrance) × Takes S (under h at kept (λ desk. T desk (desk.asked (speech.user d) ask))) old kept' e new
-  asked_turn_by S at kept kept' by ask d e outcome old old' new T concludes same due none is did s =
-      asked_turn S at kept kept' ask d e outcome old old' new T concludes due none is (subst (λ (u : Option User). Submits S at kept u ask kept' outcome) same did) s
-
   -- ---- a further ask
 
   -- it leads to no other, whatever hinders it
@@ -489,19 +477,18 @@ module _ {D : Type 0} (speech : Speech D) where
   )
 
   -- the same, of what became of the first
-  pub asked_further : (S T S' : List JournalRecord → TurnCounts → Type 0) (at : ℕ) (kept kept' left : Kept) (by : Option User) (ask asked : Ask) (d e f : D) (outcome : Result Item SubmitFault) (old old' new : Reply)
-      → by ≡ speech.user d → speech.is_due d ≡ true
+  pub asked_further : (S T S' : List JournalRecord → TurnCounts → Type 0) (at : ℕ) (kept kept' left : Kept) (ask asked : Ask) (d e f : D) (outcome : Result Item SubmitFault) (old old' new : Reply)
+      → speech.is_due d ≡ true
       → (S [] none_counted → (failed : List JournalRecord) (c : TurnCounts) → T failed c → S' failed c)
       → old' ≡ record old { gone = old.gone ++ gone_between kept kept' }
-      → Submits S at kept by ask kept' outcome
+      → Submits S at kept (speech.user d) ask kept' outcome
       → speech.settle (store_of kept') kept'.stamps d outcome ≡ took (Submit asked) e
       → (h : Hindrance) × Takes T (under h at kept' (λ later. done speech kept' e (later.asked (speech.user e) asked))) old' left f new
       → (h : Hindrance) × Takes S' (under h at kept (λ desk. pursued speech desk kept d (desk.asked (speech.user d) ask))) old left f new
-  asked_further S T S' at kept kept' left by ask asked d e f (Err fault) old old' new same due then is did settles turn =
+  asked_further S T S' at kept kept' left ask asked d e f (Err fault) old old' new due then is did settles turn =
       absurd (true≢false (sym (speech.answers_fault (store_of kept') kept'.stamps d fault due) ∙ ap (λ (t : Took D). is_answer t.out) settles))
-  asked_further S T S' at kept kept' left by ask asked d e f (Ok item) old old' new same due then is (does, seals) settles turn =
-      further_turn T S' at kept kept' left ask asked d e f item old old' new (then seals) is
-      (subst (λ (u : Option User). submitted_as kept (live (store_of kept) kept.next at u ask kept.deep) ≡ record { outcome = Ok item; kept = kept' }) same does) settles turn
+  asked_further S T S' at kept kept' left ask asked d e f (Ok item) old old' new due then is (does, seals) settles turn =
+      further_turn T S' at kept kept' left ask asked d e f item old old' new (then seals) is does settles turn
 
   -- what was done before a further ask is sealed
   pub sealed_before : (S : List JournalRecord → TurnCounts → Type 0) (at : ℕ) (kept kept' : Kept) (by : Option User) (ask asked : Ask) (d e : D) (outcome : Result Item SubmitFault) → speech.is_due d ≡ true

@@ -18,7 +18,7 @@ use Rattle.store_kept.specs.Kept.{Kept, store_of}
 use Rattle.verb_bytes.specs.declared.journal.JournalRecord.{JournalRecord}
 use Rattle.mail_loop.specs.TurnCounts.{TurnCounts}
 use Rattle.mail_loop.specs.declared.reply.Reply.{Reply}
-use Rattle.mail_loop.specs.State.{Seats, beside}
+use Rattle.mail_loop.specs.State.{Seats}
 use Rattle.mail_loop.specs.Turn.{Turn, ends, says}
 use Rattle.mail_loop.specs.Session.{Took, followed, size_in, hindered}
 use Rattle.mail_loop.specs.Hindrance.{Hindrance, Clear, Unheard, under}
@@ -27,10 +27,6 @@ use Rattle.mail_loop.specs.Took.{IsNone, Takes}
 use Rattle.mail_loop.specs.ImapTook.{IsAnswered, obeyed, obeyed_under}
 use Rattle.mail_loop.proofs.Units.{or_told}
 use Rattle.mail_loop.proofs.Telling.{closed, told_whole}
-
--- a turn of an IMAP client's connection at a moment
-abbrev pub next_at : ℕ → ℕ → Seats → Hindrance → Kept → Dialog → Next → Turn Dialog
-next_at at conn seats h kept d next = hindered imap_session h at kept (beside conn seats) d next
 
 -- an answer that was made, or for which no memory was found
 pub answered_turn : (said : List ℕ) (text : Result (List ℕ) WantOfMemory) (kept : Kept) (d d' : Dialog) (old new : Reply) (f : Hindrance → Turn Dialog) (h : Hindrance)

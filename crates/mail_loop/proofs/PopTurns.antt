@@ -29,7 +29,7 @@ use Rattle.mail_loop.specs.declared.reply.Reply.{Reply}
 use Rattle.mail_loop.specs.State.{Seat, Seats, State, Smtp, Imap, Http, Pop, beside}
 use Rattle.mail_loop.specs.Turn.{Turn, lost, says}
 use Rattle.mail_loop.specs.Session.{followed, hindered, size_in}
-use Rattle.mail_loop.specs.Turns.{Outcome as AfterTurns, after, fetches, goes_on, heard_by, turn_of, turns}
+use Rattle.mail_loop.specs.Turns.{Outcome as AfterTurns, after, goes_on, heard_by, hears_turns, pop_source, turn_of, turns}
 use Rattle.mail_loop.specs.Hindrance.{Hindrance, Refused, Unheard, first_hindrance, other_hindrances, under}
 use Rattle.mail_loop.specs.PopTurn.{in_use, is_fetching, is_read, memory_told, of_pop, pop_beside, pop_session, pop_speech, text_of, took_by, user_at, user_beside}
 use Rattle.mail_loop.specs.Stands.{AreInUse}
@@ -37,10 +37,6 @@ use Rattle.mail_loop.specs.Took.{Adds, AreThere, AsksAs, GoesOn, IsAwaitedLast, 
 use Rattle.mail_loop.proofs.Dialogs.{textless_turn}
 use Rattle.mail_loop.proofs.Units.{begun_turn}
 use Rattle.mail_loop.proofs.Telling.{closed, lifted, told_whole}
-
--- a turn of a POP3 client's connection at a moment, where these users have their maildrops in use
-abbrev pub fetching_at : List User → ℕ → ℕ → Seats → Hindrance → Kept → Dialog → SmtpLine → Turn Dialog
-fetching_at users at conn seats h kept d line = hindered (pop_beside users) h at kept (beside conn seats) d line
 
 -- ---- what a line gives
 
@@ -180,9 +176,9 @@ same_turns users at conn hs s d (line ∷ lines) used =
     behind_it None same = refl
     behind_it (Some e) same = let o = turn_of pop_session at conn (first_hindrance hs) s d line in ap (after o.said o.gone o.unsealed o.counts) (same e)
 
-pub same_fetches : (users : List User) (at conn : ℕ) (hs : List Hindrance) (s : State) (d : Dialog) (stream : List ℕ) → users ≡ in_use (beside conn s.seats)
-    → fetches pop_session hs at s conn d stream ≡ fetches (pop_beside users) hs at s conn d stream
-same_fetches users at conn hs s d stream used = ap (heard_by (Pop (rest_of stream))) (sym (same_turns users at conn hs s d (smtp_lines_of stream) used))
+pub same_heard : (at conn : ℕ) (hs : List Hindrance) (s : State) (d : Dialog) (stream : List ℕ)
+    → hears_turns pop_source pop_session hs at s conn d stream ≡ hears_turns pop_source (pop_beside (in_use (beside conn s.seats))) hs at s conn d stream
+same_heard at conn hs s d stream = ap (heard_by (Pop (rest_of stream))) (sym (same_turns (in_use (beside conn s.seats)) at conn hs s d (smtp_lines_of stream) refl))
 
 -- what the session was given is what the machine gives the dialog
 pub line_is : (kept : Kept) (house : House) (store : MailStore) (stamps : List (BoxId × ℕ)) (sizes : Body → Option ℕ) (users : List User) (d e : Dialog) (line : SmtpLine) (out : PopOut)
@@ -202,6 +198,11 @@ passed_over conn (e ∷ es) =
       | false ↦ ap (λ (us : List User). cons_option (user_at e.1) us) (passed_over conn es)
     ]
 
+-- whoever they are
+pub some_users : (found : Result (List User) WantOfMemory) → (users : List User) × IfOk found (λ us. us ≡ users)
+some_users (Ok users) = (users, refl)
+some_users (Err e) = ([], tt)
+
 -- they are looked for where a POP3 client asks
 pub found_for : (conn : ℕ) (seats : Seats) (seat : Seat) (users : Result (List User) WantOfMemory) → IfOk users (λ us. us ≡ in_use (beside conn seats)) → AreInUse conn seats seat users
 found_for conn seats (Smtp unserved d) users are = tt
@@ -214,7 +215,3 @@ none_for conn seats (Smtp unserved d) users is = tt
 none_for conn seats (Imap stream d) users is = tt
 none_for conn seats (Http came) users is = tt
 none_for conn seats (Pop unserved d) users wrong = absurd (true≢false wrong)
-
--- where memory was found for them
-pub users_told : (conn : ℕ) (seats : Seats) (found : Result (List User) WantOfMemory) (users : List User) → found ≡ Ok users → IfOk found (λ us. us ≡ in_use (beside conn seats)) → users ≡ in_use (beside conn seats)
-users_told conn seats found users is are = subst (λ (r : Result (List User) WantOfMemory). IfOk r (λ us. us ≡ in_use (beside conn seats))) is are

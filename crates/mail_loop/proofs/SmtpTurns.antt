@@ -25,18 +25,14 @@ use Rattle.store_kept.specs.Kept.{Kept, store_of}
 use Rattle.verb_bytes.specs.declared.journal.JournalRecord.{JournalRecord}
 use Rattle.mail_loop.specs.TurnCounts.{TurnCounts}
 use Rattle.mail_loop.specs.declared.reply.Reply.{Reply}
-use Rattle.mail_loop.specs.State.{Seats, beside}
-use Rattle.mail_loop.specs.Turn.{Turn, lost, says}
+use Rattle.mail_loop.specs.State.{Seats}
+use Rattle.mail_loop.specs.Turn.{lost, says}
 use Rattle.mail_loop.specs.Session.{followed, hindered, is_answer}
 use Rattle.mail_loop.specs.Hindrance.{Hindrance, Refused, Unheard, under}
 use Rattle.mail_loop.specs.SmtpTurn.{answers, is_free, memory_told, of_smtp, smtp_session, smtp_speech, took_by}
 use Rattle.mail_loop.specs.Took.{Adds, AreThere, AsksAs, GoesOn, IsNext, IsNone, Takes}
 use Rattle.mail_loop.proofs.Units.{begun_turn}
 use Rattle.mail_loop.proofs.Telling.{closed, told_whole}
-
--- a turn of an SMTP client's connection at a moment
-abbrev pub line_at : ℕ → ℕ → Seats → Hindrance → Kept → Dialog → SmtpLine → Turn Dialog
-line_at at conn seats h kept d line = hindered smtp_session h at kept (beside conn seats) d line
 
 -- no outcome is due where the session is free, and it is free where none is
 pub none_due : (d : Dialog) → is_free d ≡ true → session.is_due d ≡ false

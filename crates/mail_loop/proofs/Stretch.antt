@@ -1,23 +1,29 @@
 -- Turns of a stretch of a stream: those so far, and those to come.
-use Rattle.std.proofs.Common.{◌≡◌, ℕ, Bool, true, false, is_none, List, [], ◌∷◌, ◌++◌, None, Some, Option, MatchOption, refl, ap, subst, sym, ◌∙◌}
+use Rattle.std.proofs.Common.{◌≡◌, ℕ, Bool, true, false, is_none, List, [], ◌∷◌, ◌++◌, None, Some, Option, MatchOption, Ok, refl, ap, subst, sym, ◌∙◌}
 use Rattle.std.specs.Option.{option_map}
 use Rattle.std.proofs.lemmas.List.{append-nil, append_assoc}
+use Rattle.undo_base.specs.declared.keys.User.{User}
 use Rattle.verb_core.specs.declared.mailbox.BoxId.{BoxId}
 use Rattle.mail_loop.specs.declared.reply.Reply.{Reply}
 use Rattle.store_kept.specs.Kept.{Kept}
 use Rattle.verb_bytes.specs.declared.journal.JournalRecord.{JournalRecord}
 use Rattle.mail_loop.specs.TurnCounts.{TurnCounts, both_counted, none_counted}
-use Rattle.mail_loop.specs.State.{Seat, Seats, State}
-use Rattle.mail_loop.specs.Turn.{Turn}
-use Rattle.mail_loop.specs.Hindrance.{Hindrance, Clear, Unheard}
-use Rattle.mail_loop.specs.Turns.{Outcome, Heard, after, goes_on, turns, outcome_of, heard_by}
+use Rattle.mail_loop.specs.State.{Pop, Seat, Seats, State, beside as besides}
+use Rattle.mail_loop.specs.Turn.{Turn, says}
+use Rattle.pop_session.specs.declared.dialog.Dialog.{Dialog as PopDialog}
+use Rattle.mail_loop.specs.PopTurn.{in_use, pop_beside}
+use Rattle.mail_loop.specs.Session.{Speech, Took, followed, session_by}
+use Rattle.mail_loop.specs.Hindrance.{Hindrance, Clear, Unheard, service}
+use Rattle.mail_loop.specs.Turns.{Outcome, Heard, after, goes_on, turns, outcome_of, heard_by, hears_seat, hears_turns, pop_source}
 use Rattle.console_head.specs.Request.{Stage}
 use Rattle.mail_loop.specs.declared.reply.Turned.{Turned}
 use Rattle.mail_loop.specs.ConsoleTurn.{AreSaid, ConsoleReading, no_consoles}
 use Rattle.mail_loop.specs.Afterwards.{taking}
-use Rattle.mail_loop.specs.Machine.{heard, hears, seated, told_others, with_reply}
+use Rattle.mail_loop.specs.Machine.{heard, heard_if_fed, hears, seated, told_others, with_reply}
 use Rattle.mail_loop.proofs.Sealed.{no_more, none_before, counts_regroup}
-use Rattle.mail_loop.specs.Took.{Takes, TellsTurns, seat_left, answered_alone, going_on_with}
+use Rattle.mail_loop.specs.Took.{ServesNone, Takes, TellsTurns, seat_left, answered_alone, going_on_with}
+use Rattle.mail_loop.proofs.PopTurns.{same_heard}
+use Rattle.mail_loop.proofs.Units.{turn_at}
 
 -- what is kept, beside seats that no turn touches
 abbrev beside : Seats → Kept → State
@@ -141,26 +147,30 @@ unheard {D} one seats kept d all reply counts kept' d' (u ∷ us) s some lost = 
       ∙ nothing_more seats reply counts kept' None,
 )
 
--- no turn is to come
-pub all_heard : {D U : Type 0} → (one : Seats → Hindrance → Kept → D → U → Turn D) (seats : Seats) (kept : Kept) (d : D) (all : List U) (reply : Reply) (counts : TurnCounts) (kept' : Kept) (d' : D) (us : List U)
-    → SoFar one seats kept d all reply counts kept' d' us → us ≡ []
-    → (hs : List Hindrance) × (turns (alone one) hs (record { kept = kept; seats = seats }) d all ≡ left seats reply kept' [] counts (Some d'))
-all_heard one seats kept d all reply counts kept' d' us s none = (
-  s.before ++ [],
-  s.split [] ∙ ap (λ ls. behind reply counts (all_turns one seats [] kept' d' ls)) none
-      ∙ nothing_more seats reply counts kept' (Some d'),
-)
+-- no turn is to come, or one that says nothing
+abbrev pub IsQuiet : {D U : Type 0} → (Seats → Hindrance → Kept → D → U → Turn D) → Seats → Kept → D → List U → Type 0
+IsQuiet one seats kept d [] = Unit {0}
+IsQuiet one seats kept d (u ∷ []) = one seats Clear kept d u ≡ says [] kept d
+IsQuiet one seats kept d (u ∷ v ∷ us) = ⊥
 
--- the last turn is to come, which says nothing
-pub last_heard : {D U : Type 0} → (one : Seats → Hindrance → Kept → D → U → Turn D) (seats : Seats) (kept : Kept) (d : D) (all : List U) (reply : Reply) (counts : TurnCounts) (kept' : Kept) (d' : D) (us : List U) (u : U)
-    → SoFar one seats kept d all reply counts kept' d' us → us ≡ u ∷ [] → one seats Clear kept' d' u ≡ record { said = []; kept = kept'; dialog = Some d'; gone = []; unsealed = []; counts = none_counted }
+-- all that is to come says nothing
+pub all_served : {D U : Type 0} → (one : Seats → Hindrance → Kept → D → U → Turn D) (seats : Seats) (kept : Kept) (d : D) (all : List U) (reply : Reply) (counts : TurnCounts) (kept' : Kept) (d' : D) (us : List U)
+    → SoFar one seats kept d all reply counts kept' d' us → IsQuiet one seats kept' d' us
     → (hs : List Hindrance) × (turns (alone one) hs (record { kept = kept; seats = seats }) d all ≡ left seats reply kept' [] counts (Some d'))
-last_heard {D} one seats kept d all reply counts kept' d' us u s last quiet = (
+all_served one seats kept d all reply counts kept' d' [] s quiet = (s.before ++ [], s.split [] ∙ nothing_more seats reply counts kept' (Some d'))
+all_served {D} one seats kept d all reply counts kept' d' (u ∷ []) s quiet = (
   s.before ++ [],
-  s.split [] ∙ ap (λ ls. behind reply counts (all_turns one seats [] kept' d' ls)) last
-      ∙ ap (λ (t : Turn D). behind reply counts (goes_on (outcome_of (beside seats kept') t) t.dialog (λ s e. turns (alone one) [] s e []))) quiet
+  s.split [] ∙ ap (λ (t : Turn D). behind reply counts (goes_on (outcome_of (beside seats kept') t) t.dialog (λ s e. turns (alone one) [] s e []))) quiet
       ∙ nothing_more seats reply counts kept' (Some d'),
 )
+all_served one seats kept d all reply counts kept' d' (u ∷ v ∷ us) s quiet = absurd quiet
+
+-- a session serves nothing of these units
+pub quiet_units : {D U : Type 0} → (speech : Speech D) (takes : List User → ℕ → Kept → D → U → Took D) (runs_out_of_memory : Kept → D → U → Turn D) (users : List User) (at conn : ℕ) (seats : Seats) (kept : Kept) (d : D) (us : List U)
+    → ServesNone takes us → IsQuiet (turn_at (session_by speech (takes users) runs_out_of_memory) at conn) seats kept d us
+quiet_units speech takes runs_out_of_memory users at conn seats kept d [] none = tt
+quiet_units {D} speech takes runs_out_of_memory users at conn seats kept d (u ∷ []) none = ap (λ (t : Took D). followed speech (service at kept) kept t.out t.dialog) (none users at kept d)
+quiet_units speech takes runs_out_of_memory users at conn seats kept d (u ∷ v ∷ us) none = none
 
 -- what the turns say is what the connection is told
 pub told_by : {D U : Type 0} → (one : Seats → Hindrance → Kept → D → U → Turn D) (seat_of : D → Seat) (seats : Seats) (kept : Kept) (d : D) (all : List U) (conn : ℕ) (reply : Reply)
@@ -207,13 +217,6 @@ heard_alone h seats conn reply kept failed counts seat t =
       consoles = no_consoles;
     }) (sym t.conn_is)
 
--- no memory was found for the bytes
-pub unfed_alone : (hs : List Hindrance) (stage : Stage) (at : ℕ) (kept : Kept) (seats : Seats) (conn : ℕ) (seat seat' : Seat) (bytes : List ℕ) (reply : Reply)
-    → reply ≡ record { conn = conn; said = []; closes = true; gone = [] }
-    → hears true hs stage at (record { kept = kept; seats = seats }) conn seat bytes ≡ answered_alone conn (going_on_with reply) kept [] none_counted [] seat' seats
-unfed_alone hs stage at kept seats conn seat seat' bytes reply e =
-    sym (ap (λ (r : Reply). answered_alone conn (going_on_with r) kept [] none_counted [] seat' seats) e)
-
 -- the seat of a connection that stays open
 pub seat_stays : (closes : Bool) (seat seat' : Seat) → closes ≡ false → seat ≡ seat' → Some seat ≡ seat_left closes seat'
 seat_stays true seat seat' wrong e = absurd (let w : true ≡ false = wrong in cc)
@@ -232,14 +235,47 @@ HeardAlone S at kept seats conn seat bytes turned kept' seat' =
     × (hears no_memory hs stage at (record { kept = kept; seats = seats }) conn seat bytes
     ≡ answered_alone conn turned kept' failed counts readings seat' seats)
 
--- the turns of an SMTP client or an IMAP client
-pub going : (S : List JournalRecord → TurnCounts → Type 0) (at : ℕ) (kept : Kept) (seats : Seats) (conn : ℕ) (seat : Seat) (bytes : List ℕ) (reply : Reply) (turned : Turned) (kept' : Kept) (seat' : Seat)
+-- The turns of the bytes that came, where they found memory, are in the one reply. This is what is kept, and the seat then.
+abbrev pub HeardTurns : (List JournalRecord → TurnCounts → Type 0) → Kept → Seats → ℕ → (List Hindrance → Heard) → Turned → Kept → Seat → Type 0
+HeardTurns S kept seats conn heard turned kept' seat' =
+    (no_memory : Bool) × (hs : List Hindrance) × (failed : List JournalRecord) × (counts : TurnCounts) × S failed counts
+    × (heard_if_fed no_memory conn (record { kept = kept; seats = seats }) (heard hs) ≡ answered_alone conn turned kept' failed counts [] seat' seats)
+
+-- these turns are in the reply
+abbrev pub ToldTurns : (List JournalRecord → TurnCounts → Type 0) → Seats → ℕ → (List Hindrance → Heard) → Reply → Kept → Seat → Type 0
+ToldTurns S seats conn heard reply kept' seat' =
+    (hs : List Hindrance) × (failed : List JournalRecord) × (counts : TurnCounts) × S failed counts × TellsTurns (heard hs) seats conn reply kept' failed counts seat'
+
+-- the bytes found memory
+pub turns_told : (S : List JournalRecord → TurnCounts → Type 0) (kept : Kept) (seats : Seats) (conn : ℕ) (h : List Hindrance → Heard) (reply : Reply) (turned : Turned) (kept' : Kept) (seat' : Seat)
     → turned ≡ going_on_with reply
-    → (b : Bool) (hs : List Hindrance) (stage : Stage) (failed : List JournalRecord) (counts : TurnCounts) → S failed counts
-    → hears b hs stage at (record { kept = kept; seats = seats }) conn seat bytes ≡ answered_alone conn (going_on_with reply) kept' failed counts [] seat' seats
-    → HeardAlone S at kept seats conn seat bytes turned kept' seat'
-going S at kept seats conn seat bytes reply turned kept' seat' is b hs stage failed counts seals e =
-    subst (λ (t : Turned). HeardAlone S at kept seats conn seat bytes t kept' seat') (sym is) (b, hs, stage, failed, counts, seals, [], tt, e)
+    → ToldTurns S seats conn h reply kept' seat' → HeardTurns S kept seats conn h turned kept' seat'
+turns_told S kept seats conn h reply turned kept' seat' is (hs, failed, counts, seals, tells) = (
+  false,
+  hs,
+  failed,
+  counts,
+  seals,
+  heard_alone (h hs) seats conn reply kept' failed counts seat' tells ∙ ap (λ (t : Turned). answered_alone conn t kept' failed counts [] seat' seats) (sym is),
+)
+
+-- no memory was found for them
+pub turns_unfed : (S : List JournalRecord → TurnCounts → Type 0) (kept : Kept) (seats : Seats) (conn : ℕ) (h : List Hindrance → Heard) (reply : Reply) (turned : Turned) (seat' : Seat)
+    → reply ≡ record { conn = conn; said = []; closes = true; gone = [] } → turned ≡ going_on_with reply → S [] none_counted → HeardTurns S kept seats conn h turned kept seat'
+turns_unfed S kept seats conn h reply turned seat' empty is seals =
+    (true, [], [], none_counted, seals, sym (ap (λ (t : Turned). answered_alone conn t kept [] none_counted [] seat' seats) (is ∙ ap going_on_with empty)))
+
+-- a connection that speaks in turns is heard
+pub turns_heard : (S : List JournalRecord → TurnCounts → Type 0) (stage : Stage) (at : ℕ) (kept : Kept) (seats : Seats) (conn : ℕ) (seat : Seat) (bytes : List ℕ) (turned : Turned) (kept' : Kept) (seat' : Seat)
+    → HeardTurns S kept seats conn (λ hs. hears_seat hs stage at (record { kept = kept; seats = seats }) conn seat bytes) turned kept' seat' → HeardAlone S at kept seats conn seat bytes turned kept' seat'
+turns_heard S stage at kept seats conn seat bytes turned kept' seat' (b, hs, failed, counts, seals, is) = (b, hs, stage, failed, counts, seals, [], tt, is)
+
+-- the turns of a POP3 client, whose session sees the others
+pub told_same : (S : List JournalRecord → TurnCounts → Type 0) (at : ℕ) (kept : Kept) (seats : Seats) (conn : ℕ) (stream : List ℕ) (d : PopDialog) (bytes : List ℕ) (turned : Turned) (kept' : Kept) (seat' : Seat)
+    → HeardTurns S kept seats conn (λ hs. hears_turns pop_source (pop_beside (in_use (besides conn seats))) hs at (record { kept = kept; seats = seats }) conn d (stream ++ bytes)) turned kept' seat'
+    → HeardTurns S kept seats conn (λ hs. hears_seat hs (Ok None) at (record { kept = kept; seats = seats }) conn (Pop stream d) bytes) turned kept' seat'
+told_same S at kept seats conn stream d bytes turned kept' seat' (b, hs, failed, counts, seals, is) =
+    (b, hs, failed, counts, seals, ap (heard_if_fed b conn (record { kept = kept; seats = seats })) (same_heard at conn hs (record { kept = kept; seats = seats }) d (stream ++ bytes)) ∙ is)
 
 pub heard_same : (S T : List JournalRecord → TurnCounts → Type 0) (at : ℕ) (kept : Kept) (seats : Seats) (conn : ℕ) (seat seat0 : Seat) (bytes : List ℕ) (turned turned0 : Turned) (kept' kept0 : Kept) (seat' seat'' : Seat)
     → seat ≡ seat0 → turned0 ≡ turned → kept0 ≡ kept' → seat'' ≡ seat' → ((failed : List JournalRecord) (counts : TurnCounts) → S failed counts → T failed counts)

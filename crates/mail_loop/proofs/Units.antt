@@ -5,11 +5,15 @@ use Rattle.verb_bytes.specs.declared.journal.JournalRecord.{JournalRecord}
 use Rattle.mail_loop.specs.declared.out.Out.{Out}
 use Rattle.mail_loop.specs.declared.reply.Reply.{Reply}
 use Rattle.mail_loop.specs.TurnCounts.{TurnCounts}
-use Rattle.mail_loop.specs.State.{Seats}
+use Rattle.mail_loop.specs.State.{Seats, beside}
 use Rattle.mail_loop.specs.Turn.{Turn}
 use Rattle.mail_loop.specs.Session.{Session, Took, followed, hindered, served, took}
 use Rattle.mail_loop.specs.Hindrance.{Hindrance, Clear, Refused as IsToldWant, Textless, Unread, UnreadRefused, UnreadUnheard, Misread, Misled, Unstored, Unheard, Unanswered, Unsealed, Untold, Unwritten, UnwrittenUnheard, Halfway, Service, row, under}
 use Rattle.mail_loop.specs.Took.{Takes}
+
+-- a turn of a connection's session at a moment
+abbrev pub turn_at : {D U : Type 0} → Session D U → ℕ → ℕ → Seats → Hindrance → Kept → D → U → Turn D
+turn_at session at conn seats h kept d unit = hindered session h at kept (beside conn seats) d unit
 
 -- what the desk serves, hindered or not, where want of memory of the session may be told
 pub or_told : {D : Type 0} → (P : Turn D → Type 0) (told : Turn D) (at : ℕ) (kept : Kept) (f : Service → Turn D) (h : Hindrance) → P (under h at kept f)

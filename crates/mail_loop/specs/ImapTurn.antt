@@ -27,7 +27,7 @@ use Rattle.imap_session.specs.Words.{bad_line_text, ready_text, tagged}
 use Rattle.store_kept.specs.Kept.{Kept, store_of}
 use Rattle.mail_loop.specs.declared.out.Out.{Out}
 use Rattle.mail_loop.specs.declared.out.Out.TheVariants.{Say, Read, Submit, Bye}
-use Rattle.mail_loop.specs.Session.{IsBye, Session, Speech, Took, is_answer, is_said, size_in, took}
+use Rattle.mail_loop.specs.Session.{IsBye, Session, Speech, Took, is_answer, is_said, session_by, size_in, took}
 use Rattle.mail_loop.specs.Turn.{Turn, lost, says}
 
 -- what its session answers
@@ -126,4 +126,4 @@ out_of_memory kept d (Bad line) = lost kept
 out_of_memory kept d NotYet = lost kept
 
 abbrev pub imap_session : Session Dialog Next
-imap_session = record { speech = imap_speech; takes = λ at kept others d next. takes kept d next; runs_out_of_memory = out_of_memory }
+imap_session = session_by imap_speech (λ at kept d next. takes kept d next) out_of_memory

@@ -120,10 +120,14 @@ heard conn h =
 abbrev pub unfed : ℕ → State → Answered
 unfed conn s = heard conn (record { said = []; state = s; seat = None; aftermath = Quiet; unsealed = []; counts = none_counted; consoles = no_consoles })
 
+-- this is heard of a connection's bytes, where they found memory
+abbrev pub heard_if_fed : Bool → ℕ → State → Heard → Answered
+heard_if_fed true conn s h = unfed conn s
+heard_if_fed false conn s h = heard conn h
+
 -- bytes come over an open connection, and find memory or none
 abbrev pub hears : Bool → List Hindrance → Stage → ℕ → State → ℕ → Seat → List ℕ → Answered
-hears true hs stage at s conn seat bytes = unfed conn s
-hears false hs stage at s conn seat bytes = heard conn (hears_seat hs stage at s conn seat bytes)
+hears no_memory hs stage at s conn seat bytes = heard_if_fed no_memory conn s (hears_seat hs stage at s conn seat bytes)
 
 -- bytes for a connection that is not open are ignored
 abbrev pub hears_at : Option Seat → Bool → List Hindrance → Stage → ℕ → State → ℕ → List ℕ → Answered

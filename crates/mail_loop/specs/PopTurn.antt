@@ -19,9 +19,9 @@ use Rattle.pop_session.specs.Dialog as session
 use Rattle.store_kept.specs.Kept.{Kept, store_of}
 use Rattle.mail_loop.specs.declared.out.Out.{Out}
 use Rattle.mail_loop.specs.declared.out.Out.TheVariants.{Say, Read, Submit, Bye}
-use Rattle.mail_loop.specs.Session.{Session, Speech, Took, is_answer, is_said, size_in, took}
+use Rattle.mail_loop.specs.Session.{Session, Speech, Took, is_answer, is_said, session_by, size_in, took}
 use Rattle.mail_loop.specs.State.{Seat, Seats, Smtp, Imap, Http, Pop}
-use Rattle.mail_loop.specs.Turn.{says}
+use Rattle.mail_loop.specs.Turn.{Turn, says}
 
 -- what its session answers
 abbrev pub of_pop : PopOut → Out
@@ -128,14 +128,14 @@ memory_told = answer_text NoMemory
 abbrev pub takes : List User → Kept → Dialog → SmtpLine → Took Dialog
 takes users kept d line = took_by (session.turn kept.house (store_of kept) kept.stamps (size_in kept) users d line)
 
--- It takes a line by the house, the store and the other connections. Where it finds no memory for one nothing changes.
+-- no memory was found for a line: nothing changes
+abbrev pub out_of_memory : Kept → Dialog → SmtpLine → Turn Dialog
+out_of_memory kept d line = says memory_told kept d
+
+-- it takes a line by the house, the store and the other connections
 abbrev pub pop_session : Session Dialog SmtpLine
-pop_session = record {
-  speech = pop_speech;
-  takes = λ at kept others d line. takes (in_use others) kept d line;
-  runs_out_of_memory = λ kept d line. says memory_told kept d;
-}
+pop_session = record { speech = pop_speech; takes = λ at kept others d line. takes (in_use others) kept d line; runs_out_of_memory = out_of_memory }
 
 -- the same, where these users have their maildrops in use
 abbrev pub pop_beside : List User → Session Dialog SmtpLine
-pop_beside users = record pop_session { takes = λ at kept others d line. takes users kept d line }
+pop_beside users = session_by pop_speech (λ at kept d line. takes users kept d line) out_of_memory

@@ -77,6 +77,10 @@ pub record Session (D U : Type 0) : Type 0 where
   pub takes : ℕ → Kept → Seats → D → U → Took D
   pub runs_out_of_memory : Kept → D → U → Turn D
 
+-- a session that takes units so, whatever the other connections
+abbrev pub session_by : {D U : Type 0} → Speech D → (ℕ → Kept → D → U → Took D) → (Kept → D → U → Turn D) → Session D U
+session_by speech takes runs_out_of_memory = record { speech = speech; takes = λ at kept others d unit. takes at kept d unit; runs_out_of_memory = runs_out_of_memory }
+
 -- who is logged in is a user of the house
 abbrev pub is_home : {D : Type 0} → Speech D → House → D → Bool
 is_home speech house d = unwrap_or (option_map (is_known house) (speech.user d)) true

@@ -33,10 +33,10 @@ use Rattle.mail_loop.specs.State.{Seat, Seats}
 use Rattle.mail_loop.specs.Afterwards.{taking}
 use Rattle.mail_loop.specs.Asked.{asked_as}
 use Rattle.mail_loop.specs.Turn.{Turn, lost}
-use Rattle.mail_loop.specs.Session.{Speech, is_answer, settled, settled_as, submits, took}
+use Rattle.mail_loop.specs.Session.{Speech, Took, is_answer, settled, settled_as, submits, took}
 use Rattle.mail_loop.specs.Hindrance.{Hindrance, Service, under}
 use Rattle.mail_loop.specs.ConsoleTurn.{ConsoleReading, no_consoles, sequel_of}
-use Rattle.mail_loop.specs.Turns.{Heard}
+use Rattle.mail_loop.specs.Turns.{Heard, Source}
 use Rattle.mail_loop.specs.Machine.{Answered as AnsweredEvent, seated, told_others, with_reply}
 use Rattle.mail_loop.specs.Stands.{reply_of}
 
@@ -205,6 +205,19 @@ abbrev pub TakesTexts : {D : Type 0} → Speech D → (List JournalRecord → Tu
 TakesTexts speech S at kept texts d old kept' d' new =
     ((h : Hindrance) × Takes S (under h at kept (given speech kept texts d)) old kept' d' new)
     ⊎ (ReadsOutOfMemory speech kept d old d' new × (kept' ≡ kept) × S [] none_counted)
+
+-- ---- a stream
+
+-- nothing is served of these units: there is none, or one of which nothing comes
+abbrev pub ServesNone : {D U : Type 0} → (List User → ℕ → Kept → D → U → Took D) → List U → Type 0
+ServesNone takes [] = Unit {0}
+ServesNone {D} takes (unit ∷ []) = (users : List User) (at : ℕ) (kept : Kept) (d : D) → takes users at kept d unit ≡ took (Say []) d
+ServesNone takes (unit ∷ more ∷ units) = ⊥
+
+-- The next unit is taken from a stream by a session that takes units so. Or none is that is to be served, and the stream is what is left of it.
+abbrev pub TakesUnit : {X D U : Type 0} → Source X D U → (List User → ℕ → Kept → D → U → Took D) → X → Option U → X → Type 0
+TakesUnit source takes old (Some unit) new = (source.units old ≡ unit ∷ source.units new) × (source.rest old ≡ source.rest new)
+TakesUnit source takes old None new = ServesNone takes (source.units old) × (source.rest old ≡ new)
 
 -- ---- replies and letters
 

@@ -1,5 +1,5 @@
--- The turns of an event, one after the other. One is for each whole line of an SMTP client's or a POP3 client's stream, and for each command, literal
--- mark and bad line of an IMAP client's.
+-- The turns of an event, one after the other: each unit that a connection's stream gives is one, whatever it speaks. A unit is a whole line of an SMTP
+-- client's or a POP3 client's stream, and a command, a literal mark or a bad line of an IMAP client's.
 use Rattle.std.specs.Prelude.{ℕ, List, [], ◌∷◌, ◌++◌, Option, None, Some}
 use Rattle.std.specs.Option.{option_map}
 use Rattle.verb_core.specs.declared.mailbox.BoxId.{BoxId}
@@ -99,17 +99,31 @@ pub record Heard : Type 0 where
 abbrev pub heard_by : {D : Type 0} → (D → Seat) → Outcome D → Heard
 heard_by seat o = record { said = o.said; state = o.state; seat = option_map seat o.dialog; aftermath = taking o.gone; unsealed = o.unsealed; counts = o.counts; consoles = no_consoles }
 
--- the turns of an SMTP client's lines; what follows the last line stays unserved
-abbrev pub hears_lines : List Hindrance → ℕ → State → ℕ → Dialog → List ℕ → Heard
-hears_lines hs at s conn d stream = heard_by (Smtp (rest_of stream)) (turns (smtp_turn at conn) hs s d (smtp_lines_of stream))
+-- A connection's stream: what more bytes make of it, the units that it gives, in order, and what is left of it behind them. And the seat that it is
+-- with a dialog.
+pub record Source (X D U : Type 0) : Type 0 where
+  pub fed : X → List ℕ → X
+  pub units : X → List U
+  pub rest : X → X
+  pub seat : X → D → Seat
 
--- the turns of a POP3 client's lines, by a session that sees the others
-abbrev pub fetches : Session PopDialog SmtpLine → List Hindrance → ℕ → State → ℕ → PopDialog → List ℕ → Heard
-fetches session hs at s conn d stream = heard_by (Pop (rest_of stream)) (turns (turn_of session at conn) hs s d (smtp_lines_of stream))
+-- whole lines; what follows the last one stays unserved
+abbrev pub line_source : {D : Type 0} → (List ℕ → D → Seat) → Source (List ℕ) D SmtpLine
+line_source seat = record { fed = λ stream bytes. stream ++ bytes; units = smtp_lines_of; rest = rest_of; seat = seat }
 
--- the turns of what an IMAP client's stream has given; the last is that of what is not whole yet, which says nothing
-abbrev pub hears_commands : List Hindrance → ℕ → State → ℕ → ImapDialog → Stream → Heard
-hears_commands hs at s conn d stream = heard_by (Imap (emptied stream)) (turns (imap_turn at conn) hs s d (stream.said ++ NotYet ∷ []))
+abbrev pub smtp_source : Source (List ℕ) Dialog SmtpLine
+smtp_source = line_source Smtp
+
+abbrev pub pop_source : Source (List ℕ) PopDialog SmtpLine
+pop_source = line_source Pop
+
+-- what an IMAP client's stream has given; the last unit is what is not whole yet, which says nothing
+abbrev pub imap_source : Source Stream ImapDialog Next
+imap_source = record { fed = imap_stream.heard; units = λ stream. stream.said ++ NotYet ∷ []; rest = emptied; seat = Imap }
+
+-- the turns of the units that a stream gives, by a session that may see the others
+abbrev pub hears_turns : {X D U : Type 0} → Source X D U → Session D U → List Hindrance → ℕ → State → ℕ → D → X → Heard
+hears_turns source session hs at s conn d stream = heard_by (source.seat (source.rest stream)) (turns (turn_of session at conn) hs s d (source.units stream))
 
 -- the one turn of a console's bytes, which are read so
 abbrev pub hears_console : List Hindrance → Stage → ℕ → State → List ℕ → Heard
@@ -127,7 +141,7 @@ hears_console hs stage at s bytes =
 
 -- bytes more come onto the stream of a connection, which may see the others; those of a console are read so
 abbrev pub hears_seat : List Hindrance → Stage → ℕ → State → ℕ → Seat → List ℕ → Heard
-hears_seat hs stage at s conn (Smtp unserved d) bytes = hears_lines hs at s conn d (unserved ++ bytes)
-hears_seat hs stage at s conn (Imap stream d) bytes = hears_commands hs at s conn d (imap_stream.heard stream bytes)
+hears_seat hs stage at s conn (Smtp unserved d) bytes = hears_turns smtp_source smtp_session hs at s conn d (unserved ++ bytes)
+hears_seat hs stage at s conn (Imap stream d) bytes = hears_turns imap_source imap_session hs at s conn d (imap_stream.heard stream bytes)
 hears_seat hs stage at s conn (Http came) bytes = hears_console hs stage at s (came ++ bytes)
-hears_seat hs stage at s conn (Pop unserved d) bytes = fetches pop_session hs at s conn d (unserved ++ bytes)
+hears_seat hs stage at s conn (Pop unserved d) bytes = hears_turns pop_source pop_session hs at s conn d (unserved ++ bytes)

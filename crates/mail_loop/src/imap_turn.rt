@@ -7,27 +7,27 @@
 ghost use Rattle.std.specs.Prelude.{◌≡◌, ℕ, Ok, Err, true, false};
 ghost use Rattle.verb_core.specs.declared.conf.House.{House as TheHouse};
 ghost use Rattle.verb_core.specs.Store.{MailStore};
-ghost use Rattle.imap_lines.specs.Command.{ReadsCommand, Reading, command_of};
+ghost use Rattle.imap_lines.specs.Command.{ReadsCommand, Reading};
 ghost use Rattle.imap_session.specs.Dialog.{is_at_home, is_free, is_view_current};
 ghost use Rattle.store_kept.specs.Kept.{store_of, Kept};
 ghost use Rattle.mail_loop.specs.Asked.{HaveSealed};
-ghost use Rattle.mail_loop.specs.Session.{hindered};
 ghost use Rattle.mail_loop.specs.Hindrance.{Hindrance};
-ghost use Rattle.mail_loop.specs.ImapTurn.{imap_session};
-ghost use Rattle.mail_loop.specs.State.{Seats};
+ghost use Rattle.mail_loop.specs.ImapTurn.{out_of_memory, takes};
 ghost use Rattle.mail_loop.specs.Took.{IsNone, Takes};
-ghost use Rattle.mail_loop.specs.ImapTook.{IsAnswered, obeyed_under};
+ghost use Rattle.mail_loop.specs.ImapTook.{IsAnswered, is_not_yet, obeyed_under};
+ghost use Rattle.mail_loop.specs.Turns.{imap_source};
 
 use crate::out::of_imap;
 use crate::reply::{Reply, say};
+use crate::serves::Serves;
 use crate::turn::{close, follow};
 use imap_lines::{ImapCommand, ImapRefused, read_command};
 use imap_session::{ImapSession, bad_line, no_memory, ready, refused, stays_current};
-use imap_stream::{Next, RawCommand};
+use imap_stream::{Next, Pieces};
 use std::alloc::Global;
 use time_desk::Desk;
 use time_desk::laws::seals_join;
-use undo_base::{NoMemory, Text};
+use undo_base::{NoMemory, Text, Users};
 use undo_outside::Disk;
 
 /// Tells what was made for it, or closes the connection where no memory was found for that.
@@ -99,64 +99,57 @@ fn refuse(alloc: Global, session: &mut ImapSession, why: &ImapRefused, reply: &m
     }
 }
 
-/// Serves a command as it stands in the stream.
-fn take_raw<D: Disk + Drop>(
-    alloc: Global,
-    desk: &mut Desk<D>,
-    session: &mut ImapSession,
-    at: u64,
-    raw: &RawCommand,
-    current: &mut bool,
-    reply: &mut Reply,
-)
-    requires free { is_free session.old ≡ true }
-    requires stays { reply.old.closes ≡ false }
-    requires home { is_at_home desk.old.kept.house session.old ≡ true }
-    requires current { current.old ≡ true → is_view_current (store_of desk.old.kept) session.old ≡ true }
-    requires sealed { desk.old.closed ≡ false }
-    ensures free { is_free session.new ≡ true }
-    ensures home { is_at_home desk.new.kept.house session.new ≡ true }
-    ensures house { desk.new.kept.house ≡ desk.old.kept.house }
-    ensures turn { (h : Hindrance) ×
-        Takes (HaveSealed D.told desk.old desk.new) (obeyed_under h at desk.old.kept session.old (command_of raw.now)) reply.old desk.new.kept session.new reply.new }
-    ensures current { current.new ≡ true → is_view_current (store_of desk.new.kept) session.new ≡ true }
+fn is_not_yet(next: &Next) -> bool
+    ensures { result ≡ is_not_yet next.now }
 {
-    seals_join::<D>();
-    match read_command(alloc, raw) {
-        Ok(command) => take_command(alloc, desk, session, at, &command, current, reply),
-        Err(why) => refuse(alloc, session, &why, reply),
-    }
+    matches!(next, Next::NotYet)
 }
 
-/// Serves one command, literal mark or bad line, and adds its answer to the reply. `current` says that the session's view is known
-/// to be of exactly what lies in its mailbox. A command that tells the view sets it; one that reads texts or asks something of the
-/// desk unsets it.
-pub fn take_next<D: Disk + Drop>(
-    alloc: Global,
-    desk: &mut Desk<D>,
-    session: &mut ImapSession,
-    at: u64,
-    next: Next,
-    current: &mut bool,
-    reply: &mut Reply,
-)
-    requires free { is_free session.old ≡ true }
-    requires stays { reply.old.closes ≡ false }
-    requires home { is_at_home desk.old.kept.house session.old ≡ true }
-    requires current { current.old ≡ true → is_view_current (store_of desk.old.kept) session.old ≡ true }
-    requires sealed { desk.old.closed ≡ false }
-    ensures free { is_free session.new ≡ true }
-    ensures home { is_at_home desk.new.kept.house session.new ≡ true }
-    ensures house { desk.new.kept.house ≡ desk.old.kept.house }
-    ensures turn { (h : Hindrance) ×
-        ((others : Seats) → Takes (HaveSealed D.told desk.old desk.new) (hindered imap_session h at desk.old.kept others session.old next) reply.old desk.new.kept session.new reply.new) }
-    ensures current { current.new ≡ true → is_view_current (store_of desk.new.kept) session.new ≡ true }
-{
-    seals_join::<D>();
-    match next {
-        Next::Command(raw) => take_raw(alloc, desk, session, at, &raw, current, reply),
-        Next::Ask { length: _ } => say(reply, ready(), false),
-        Next::Bad(line) => answer(session, bad_line(alloc, &line), reply),
-        Next::NotYet => {}
+impl Serves for ImapSession {
+    type Stream = Pieces;
+
+    type Unit = Next;
+
+    ghost source = { imap_source };
+
+    ghost takes = { λ users at kept d next. takes kept d next };
+
+    ghost runs_out_of_memory = { out_of_memory };
+
+    ghost is_current = { is_view_current };
+
+    fn feed(stream: &mut Pieces, bytes: &[u8]) -> Result<(), NoMemory> {
+        stream.feed(bytes)
+    }
+
+    fn next_unit(alloc: Global, stream: &mut Pieces) -> Result<Option<Next>, NoMemory> {
+        let next = stream.next(alloc)?;
+        if is_not_yet(&next) {
+            return Ok(None);
+        }
+        Ok(Some(next))
+    }
+
+    fn take_unit<D: Disk + Drop>(
+        &mut self,
+        alloc: Global,
+        desk: &mut Desk<D>,
+        at: u64,
+        users: &Users,
+        next: Next,
+        current: &mut bool,
+        reply: &mut Reply,
+    ) {
+        seals_join::<D>();
+        let _users = users;
+        match next {
+            Next::Command(raw) => match read_command(alloc, &raw) {
+                Ok(command) => take_command(alloc, desk, self, at, &command, current, reply),
+                Err(why) => refuse(alloc, self, &why, reply),
+            },
+            Next::Ask { length: _ } => say(reply, ready(), false),
+            Next::Bad(line) => answer(self, bad_line(alloc, &line), reply),
+            Next::NotYet => {}
+        }
     }
 }

@@ -6,35 +6,30 @@
 ghost use Rattle.std.specs.Prelude.{◌≡◌, ◌≤◌, Bool, List, Some, false, option_map, true};
 ghost use Rattle.std.specs.List.{list_any};
 ghost use Rattle.verb_core.specs.declared.mailbox.BoxId.{BoxId as TheBoxId};
-ghost use Rattle.imap_session.specs.Dialog.{holds, is_at_home, is_free};
+ghost use Rattle.imap_session.specs.Dialog.{holds};
 ghost use Rattle.verb_bytes.specs.declared.journal.JournalRecord.{JournalRecord};
 ghost use Rattle.mail_loop.specs.PopTurn.{is_fetching, user_at};
-ghost use Rattle.mail_loop.specs.State.{Seats, Smtp as SmtpSeat, Imap as ImapSeat, role_of};
+ghost use Rattle.mail_loop.specs.State.{Seats, role_of};
 ghost use Rattle.mail_loop.specs.Roles.{row_of};
-ghost use Rattle.mail_loop.specs.SmtpTurn as smtp;
 ghost use Rattle.mail_loop.specs.Asked.{HaveSealed};
 ghost use Rattle.mail_loop.specs.TurnCounts.{TurnCounts};
 ghost use Rattle.mail_loop.specs.Hindrance.{Hindrance};
-ghost use Rattle.mail_loop.specs.Turns.{hears_lines, hears_commands};
 ghost use Rattle.console_head.specs.Request.{Stage};
 ghost use Rattle.mail_loop.specs.ConsoleTurn.{AreSaid, ConsoleReading};
 ghost use Rattle.mail_loop.specs.Machine.{hears, seat_at};
 ghost use Rattle.mail_loop.specs.Afterwards.{holds_one, last_words};
-ghost use Rattle.mail_loop.specs.ImapTook.{is_not_yet};
 ghost use Rattle.mail_loop.specs.Stands.{AreInUse, IsFree, IsHome, said_of, seat_of};
-ghost use Rattle.mail_loop.specs.Took.{TellsTurns, answered_alone};
+ghost use Rattle.mail_loop.specs.Took.{answered_alone};
 
 use crate::aftermath::Aftermath;
 use crate::console_turn::hear_console;
-use crate::fetching::hear_fetching;
-use crate::imap_turn::take_next;
 use crate::letters::Said;
-use crate::reply::{Reply, Turned, empty_reply, going_on};
+use crate::reply::Turned;
 use crate::roles::{at_rewind, at_upgrade};
-use crate::smtp_turn::take_line;
+use crate::serves::hear_turns;
 use console_session::ConsoleSession;
 use imap_session::ImapSession;
-use imap_stream::{Next, Pieces};
+use imap_stream::Pieces;
 use pop_session::PopSession;
 use smtp_lines::Cutter;
 use smtp_session::SmtpSession;
@@ -42,7 +37,6 @@ use std::alloc::Global;
 use std::marker::Model;
 use std::thread::Threads;
 use time_desk::Desk;
-use time_desk::laws::seals_join;
 use undo_base::{LAST_MOMENT, NoMemory, User, Users};
 use undo_outside::{Disk, Gate, Role};
 use verb_core::BoxId;
@@ -194,144 +188,6 @@ fn dialog_holds(dialog: &ImapSession, boxes: &[BoxId]) -> bool
     boxes.iter().any(|id| dialog.holds(id.user, &id.name))
 }
 
-/// Serves the lines that are whole, each of which is a turn.
-fn serve_lines<D: Disk + Drop>(
-    alloc: Global,
-    desk: &mut Desk<D>,
-    unserved: &mut Cutter,
-    dialog: &mut SmtpSession,
-    conn: u32,
-    at: u64,
-) -> Reply
-    requires moment { at ≤ LAST_MOMENT }
-    requires sealed { desk.old.closed ≡ false }
-    requires free { smtp.is_free dialog.old ≡ true }
-    ensures free { smtp.is_free dialog.new ≡ true }
-    ensures house { desk.new.kept.house ≡ desk.old.kept.house }
-    ensures turns { (seats : Seats) → (hs : List Hindrance) × (failed : List JournalRecord) × (counts : TurnCounts) × HaveSealed D.told desk.old desk.new failed counts ×
-        TellsTurns (hears_lines hs at (record { kept = desk.old.kept; seats = seats }) conn dialog.old unserved.old) seats conn result desk.new.kept failed counts (SmtpSeat unserved.new dialog.new) }
-{
-    seals_join::<D>();
-    let mut reply = empty_reply(alloc, conn, false);
-    loop {
-        let line = match unserved.next(alloc) {
-            Ok(Some(line)) => line,
-            Ok(None) => return reply,
-            Err(NoMemory) => {
-                reply.closes = true;
-                return reply;
-            }
-        };
-        take_line(alloc, desk, dialog, at, &line, &mut reply);
-        if reply.closes {
-            return reply;
-        }
-    }
-}
-
-/// Serves the bytes that came over an SMTP client's connection.
-fn hear_smtp<D: Disk + Drop>(
-    alloc: Global,
-    desk: &mut Desk<D>,
-    unserved: &mut Cutter,
-    dialog: &mut SmtpSession,
-    conn: u32,
-    at: u64,
-    bytes: &[u8],
-) -> Turned
-    requires moment { at ≤ LAST_MOMENT }
-    requires sealed { desk.old.closed ≡ false }
-    requires free { smtp.is_free dialog.old ≡ true }
-    ensures free { smtp.is_free dialog.new ≡ true }
-    ensures house { desk.new.kept.house ≡ desk.old.kept.house }
-    ensures heard { (seats : Seats) → (no_memory : Bool) × (hs : List Hindrance) × (stage : Stage) × (failed : List JournalRecord) × (counts : TurnCounts) ×
-        HaveSealed D.told desk.old desk.new failed counts × (readings : List ConsoleReading) × AreSaid readings ×
-        (hears no_memory hs stage at (record { kept = desk.old.kept; seats = seats }) conn (SmtpSeat unserved.old dialog.old) bytes.now
-        ≡ answered_alone conn result desk.new.kept failed counts readings (SmtpSeat unserved.new dialog.new) seats) }
-{
-    seals_join::<D>();
-    match unserved.feed(bytes) {
-        Ok(()) => going_on(serve_lines(alloc, desk, unserved, dialog, conn, at)),
-        Err(NoMemory) => going_on(empty_reply(alloc, conn, true)),
-    }
-}
-
-fn is_not_yet(next: &Next) -> bool
-    ensures { result ≡ is_not_yet next.now }
-{
-    matches!(next, Next::NotYet)
-}
-
-/// Serves the commands, literal marks and bad lines that are whole, each of which is a turn. Between them the store changes only
-/// by what they ask, so a view that was told of its mailbox is known to be current until one of them asks something.
-fn serve_commands<D: Disk + Drop>(
-    alloc: Global,
-    desk: &mut Desk<D>,
-    stream: &mut Pieces,
-    dialog: &mut ImapSession,
-    conn: u32,
-    at: u64,
-) -> Reply
-    requires moment { at ≤ LAST_MOMENT }
-    requires sealed { desk.old.closed ≡ false }
-    requires free { is_free dialog.old ≡ true }
-    requires home { is_at_home desk.old.kept.house dialog.old ≡ true }
-    ensures free { is_free dialog.new ≡ true }
-    ensures home { is_at_home desk.new.kept.house dialog.new ≡ true }
-    ensures house { desk.new.kept.house ≡ desk.old.kept.house }
-    ensures turns { (seats : Seats) → (hs : List Hindrance) × (failed : List JournalRecord) × (counts : TurnCounts) × HaveSealed D.told desk.old desk.new failed counts ×
-        TellsTurns (hears_commands hs at (record { kept = desk.old.kept; seats = seats }) conn dialog.old stream.old) seats conn result desk.new.kept failed counts (ImapSeat stream.new dialog.new) }
-{
-    seals_join::<D>();
-    let mut reply = empty_reply(alloc, conn, false);
-    let mut current = false;
-    loop {
-        let next = match stream.next(alloc) {
-            Ok(next) => next,
-            Err(NoMemory) => {
-                reply.closes = true;
-                return reply;
-            }
-        };
-        if is_not_yet(&next) {
-            return reply;
-        }
-        take_next(alloc, desk, dialog, at, next, &mut current, &mut reply);
-        if reply.closes {
-            return reply;
-        }
-    }
-}
-
-/// Serves the bytes that came over an IMAP client's connection.
-fn hear_imap<D: Disk + Drop>(
-    alloc: Global,
-    desk: &mut Desk<D>,
-    stream: &mut Pieces,
-    dialog: &mut ImapSession,
-    conn: u32,
-    at: u64,
-    bytes: &[u8],
-) -> Turned
-    requires moment { at ≤ LAST_MOMENT }
-    requires sealed { desk.old.closed ≡ false }
-    requires free { is_free dialog.old ≡ true }
-    requires home { is_at_home desk.old.kept.house dialog.old ≡ true }
-    ensures free { is_free dialog.new ≡ true }
-    ensures home { is_at_home desk.new.kept.house dialog.new ≡ true }
-    ensures house { desk.new.kept.house ≡ desk.old.kept.house }
-    ensures heard { (seats : Seats) → (no_memory : Bool) × (hs : List Hindrance) × (stage : Stage) × (failed : List JournalRecord) × (counts : TurnCounts) ×
-        HaveSealed D.told desk.old desk.new failed counts × (readings : List ConsoleReading) × AreSaid readings ×
-        (hears no_memory hs stage at (record { kept = desk.old.kept; seats = seats }) conn (ImapSeat stream.old dialog.old) bytes.now
-        ≡ answered_alone conn result desk.new.kept failed counts readings (ImapSeat stream.new dialog.new) seats) }
-{
-    seals_join::<D>();
-    match stream.feed(bytes) {
-        Ok(()) => going_on(serve_commands(alloc, desk, stream, dialog, conn, at)),
-        Err(NoMemory) => going_on(empty_reply(alloc, conn, true)),
-    }
-}
-
 /// Serves the bytes that came over a connection. What it makes of them is told of any table of connections in which it stands, where
 /// `in_use` are the users of the other POP3 clients.
 pub fn hear<R: Threads + Sync, D: Disk + Drop, G: Gate>(
@@ -357,12 +213,14 @@ pub fn hear<R: Threads + Sync, D: Disk + Drop, G: Gate>(
     let Occasion { conn, at } = occasion;
     match &mut connection.kind {
         Kind::Smtp { unserved, dialog } => {
-            hear_smtp(alloc, desk, unserved, dialog, conn, at, bytes)
+            hear_turns(alloc, desk, unserved, dialog, conn, at, in_use, bytes)
         }
-        Kind::Imap { stream, dialog } => { hear_imap(alloc, desk, stream, dialog, conn, at, bytes) }
+        Kind::Imap { stream, dialog } => {
+            hear_turns(alloc, desk, stream, dialog, conn, at, in_use, bytes)
+        }
         Kind::Http(console) => hear_console(rt, alloc, desk, console, conn, at, gate, bytes),
         Kind::Pop { unserved, dialog } => {
-            hear_fetching(alloc, desk, unserved, dialog, conn, at, in_use, bytes)
+            hear_turns(alloc, desk, unserved, dialog, conn, at, in_use, bytes)
         }
     }
 }

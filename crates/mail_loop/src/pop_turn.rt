@@ -6,16 +6,17 @@ ghost use Rattle.std.specs.Prelude.{◌≡◌, false, true};
 ghost use Rattle.pop_session.specs.Dialog.{AsksAsUser, IsNext, is_at_home, is_free};
 ghost use Rattle.mail_loop.specs.Asked.{HaveSealed};
 ghost use Rattle.mail_loop.specs.Hindrance.{Hindrance, under};
-ghost use Rattle.mail_loop.specs.PopTurn.{of_pop, pop_beside, pop_speech};
-ghost use Rattle.mail_loop.specs.Session.{followed, hindered};
-ghost use Rattle.mail_loop.specs.State.{Seats};
+ghost use Rattle.mail_loop.specs.PopTurn.{of_pop, out_of_memory, pop_speech, takes};
+ghost use Rattle.mail_loop.specs.Session.{followed};
 ghost use Rattle.mail_loop.specs.Took.{AreThere, Takes};
+ghost use Rattle.mail_loop.specs.Turns.{pop_source};
 
 use crate::out::of_pop;
 use crate::reply::{Reply, say};
+use crate::serves::Serves;
 use crate::turn::{follow, read_out_of_memory};
 use pop_session::{PopOut, PopSession, memory_text};
-use smtp_lines::SmtpLine;
+use smtp_lines::{Cutter, SmtpLine};
 use std::alloc::Global;
 use time_desk::Desk;
 use time_desk::laws::seals_join;
@@ -50,31 +51,49 @@ fn obey<D: Disk + Drop>(
     }
 }
 
-/// Serves one line, and adds its answer to the reply. `users` are those of the other POP3 clients.
-pub fn take_fetching<D: Disk + Drop>(
-    alloc: Global,
-    desk: &mut Desk<D>,
-    session: &mut PopSession,
-    at: u64,
-    users: &Users,
-    line: &SmtpLine,
-    reply: &mut Reply,
-)
-    requires free { is_free session.old ≡ true }
-    requires stays { reply.old.closes ≡ false }
-    requires home { is_at_home desk.old.kept.house session.old ≡ true }
-    requires sealed { desk.old.closed ≡ false }
-    ensures free { is_free session.new ≡ true }
-    ensures home { is_at_home desk.new.kept.house session.new ≡ true }
-    ensures house { desk.new.kept.house ≡ desk.old.kept.house }
-    ensures turn { (h : Hindrance) × ((others : Seats) →
-        Takes (HaveSealed D.told desk.old desk.new) (hindered (pop_beside users.now) h at desk.old.kept others session.old line.now) reply.old desk.new.kept session.new reply.new) }
-{
-    seals_join::<D>();
-    desk.stands();
-    let (house, store, stamps, sizes) = (desk.house(), desk.store(), desk.stamps(), desk.shelf());
-    match session.take(alloc, house, store, stamps, sizes, users, line) {
-        Ok(out) => obey(alloc, desk, session, at, out, reply),
-        Err(NoMemory) => say(reply, memory_text(), false),
+impl Serves for PopSession {
+    type Stream = Cutter;
+
+    type Unit = SmtpLine;
+
+    ghost source = { pop_source };
+
+    ghost takes = { λ users at kept d line. takes users kept d line };
+
+    ghost runs_out_of_memory = { out_of_memory };
+
+    ghost is_current = { λ store d. true };
+
+    fn feed(stream: &mut Cutter, bytes: &[u8]) -> Result<(), NoMemory> {
+        stream.feed(bytes)
+    }
+
+    fn next_unit(alloc: Global, stream: &mut Cutter) -> Result<Option<SmtpLine>, NoMemory> {
+        stream.next(alloc)
+    }
+
+    fn take_unit<D: Disk + Drop>(
+        &mut self,
+        alloc: Global,
+        desk: &mut Desk<D>,
+        at: u64,
+        users: &Users,
+        line: SmtpLine,
+        current: &mut bool,
+        reply: &mut Reply,
+    ) {
+        seals_join::<D>();
+        let _current = current;
+        desk.stands();
+        let (house, store, stamps, sizes) = (
+            desk.house(),
+            desk.store(),
+            desk.stamps(),
+            desk.shelf(),
+        );
+        match self.take(alloc, house, store, stamps, sizes, users, &line) {
+            Ok(out) => obey(alloc, desk, self, at, out, reply),
+            Err(NoMemory) => say(reply, memory_text(), false),
+        }
     }
 }

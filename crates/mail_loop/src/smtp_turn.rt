@@ -2,25 +2,26 @@
 //!
 //! A session whose connection closes while the outcome of a delivery is due is put back to a new one: between two lines no
 //! outcome is ever due. The machine forgets that session in any case.
-ghost use Rattle.std.specs.Prelude.{◌≡◌, ◌≤◌, ℕ, false, true};
+ghost use Rattle.std.specs.Prelude.{◌≡◌, ℕ, false, true};
 ghost use Rattle.smtp_lines.specs.declared.line.SmtpLine.{SmtpLine as TheLine};
 ghost use Rattle.store_kept.specs.Kept.{Kept};
-ghost use Rattle.mail_loop.specs.Asked.{HaveSealed};
 ghost use Rattle.mail_loop.specs.Session.{hindered};
 ghost use Rattle.mail_loop.specs.Hindrance.{Hindrance};
-ghost use Rattle.mail_loop.specs.SmtpTurn.{is_free, smtp_session};
+ghost use Rattle.mail_loop.specs.SmtpTurn.{is_free, out_of_memory, smtp_session, takes};
 ghost use Rattle.mail_loop.specs.State.{Seats};
 ghost use Rattle.mail_loop.specs.Took.{IsNone, Takes};
+ghost use Rattle.mail_loop.specs.Turns.{smtp_source};
 
 use crate::out::of_smtp;
 use crate::reply::{Reply, say};
+use crate::serves::Serves;
 use crate::turn::{close, follow};
-use smtp_lines::SmtpLine;
+use smtp_lines::{Cutter, SmtpLine};
 use smtp_session::{SmtpSession, memory_text};
 use std::alloc::Global;
 use time_desk::Desk;
 use time_desk::laws::seals_join;
-use undo_base::{LAST_MOMENT, NoMemory};
+use undo_base::{NoMemory, Users};
 use undo_outside::Disk;
 
 /// No memory was found for a line. In a text nothing can be said of it.
@@ -38,27 +39,42 @@ fn run_out_of_memory(session: &mut SmtpSession, reply: &mut Reply)
     }
 }
 
-/// Serves one line, and adds its answer to the reply.
-pub fn take_line<D: Disk + Drop>(
-    alloc: Global,
-    desk: &mut Desk<D>,
-    session: &mut SmtpSession,
-    at: u64,
-    line: &SmtpLine,
-    reply: &mut Reply,
-)
-    requires moment { at ≤ LAST_MOMENT }
-    requires free { is_free session.old ≡ true }
-    requires stays { reply.old.closes ≡ false }
-    requires sealed { desk.old.closed ≡ false }
-    ensures free { is_free session.new ≡ true }
-    ensures house { desk.new.kept.house ≡ desk.old.kept.house }
-    ensures turn { (h : Hindrance) ×
-        ((others : Seats) → Takes (HaveSealed D.told desk.old desk.new) (hindered smtp_session h at desk.old.kept others session.old line.now) reply.old desk.new.kept session.new reply.new) }
-{
-    seals_join::<D>();
-    match session.take(alloc, desk.house(), desk.conf(), at, line) {
-        Ok(out) => follow(alloc, desk, session, at, of_smtp(alloc, out), reply),
-        Err(NoMemory) => run_out_of_memory(session, reply),
+impl Serves for SmtpSession {
+    type Stream = Cutter;
+
+    type Unit = SmtpLine;
+
+    ghost source = { smtp_source };
+
+    ghost takes = { λ users. takes };
+
+    ghost runs_out_of_memory = { out_of_memory };
+
+    ghost is_current = { λ store d. true };
+
+    fn feed(stream: &mut Cutter, bytes: &[u8]) -> Result<(), NoMemory> {
+        stream.feed(bytes)
+    }
+
+    fn next_unit(alloc: Global, stream: &mut Cutter) -> Result<Option<SmtpLine>, NoMemory> {
+        stream.next(alloc)
+    }
+
+    fn take_unit<D: Disk + Drop>(
+        &mut self,
+        alloc: Global,
+        desk: &mut Desk<D>,
+        at: u64,
+        users: &Users,
+        line: SmtpLine,
+        current: &mut bool,
+        reply: &mut Reply,
+    ) {
+        seals_join::<D>();
+        let (_users, _current) = (users, current);
+        match self.take(alloc, desk.house(), desk.conf(), at, &line) {
+            Ok(out) => follow(alloc, desk, self, at, of_smtp(alloc, out), reply),
+            Err(NoMemory) => run_out_of_memory(self, reply),
+        }
     }
 }

@@ -15,16 +15,17 @@
 //!
 //! The session is told of an outcome again, as of want of memory, only after a refusal (`is_refused`). After an item that is
 //! kept, and after a failed seal, the connection closes without that answer.
-ghost use Rattle.std.specs.Prelude.{◌≡◌, is_some, true, false, IfOk, IsTrue, OnErr};
+ghost use Rattle.std.specs.Prelude.{◌≡◌, ◌++◌, is_some, true, false, IfOk, IsTrue, OnErr};
 ghost use Rattle.std.specs.List.{list_all};
 ghost use Rattle.verb_core.specs.declared.conf.House.{House as TheHouse};
 ghost use Rattle.verb_core.specs.Live.{is_users};
 ghost use Rattle.store_kept.specs.Kept.{store_of, Kept};
 ghost use Rattle.store_kept.specs.Texts.{has_text_kept};
+ghost use Rattle.mail_loop.specs.Afterwards.{gone_between};
 ghost use Rattle.mail_loop.specs.Asked.{HaveSealed};
 ghost use Rattle.mail_loop.specs.Session.{done, followed, is_home, is_said, pursued, submits, took};
 ghost use Rattle.mail_loop.specs.Hindrance.{Hindrance, under};
-ghost use Rattle.mail_loop.specs.Took.{AreThere, AsksAs, IsAwaitedLast, IsDueNext, IsLast, IsNext, IsTold, ReadsNone, ReadsOutOfMemory, Settles, SettlesAgain, SettlesOrAsks, Takes, TakesTexts, asked_in};
+ghost use Rattle.mail_loop.specs.Took.{AreThere, AsksAs, IsAwaitedLast, IsDueNext, IsLast, IsNext, IsTold, ReadsNone, ReadsOutOfMemory, Settles, SettlesAgain, SettlesOrAsks, Submits, Takes, TakesTexts, asked_in};
 
 use crate::asking::{ask_desk, is_refused};
 use crate::out::Out;
@@ -50,18 +51,6 @@ pub fn close<S: Speaks>(session: &mut S, reply: &mut Reply)
     reply.closes = true;
 }
 
-/// What is said goes into the reply.
-fn tell(reply: &mut Reply, out: Out)
-    ensures { IsTold out reply.old reply.new }
-{
-    match out {
-        Out::Say(text) => say(reply, text.bytes(), false),
-        Out::Bye(text) => say(reply, text.bytes(), true),
-        Out::Read(_) => {}
-        Out::Submit(_) => {}
-    }
-}
-
 /// What is said goes into the reply. Gives what is asked.
 fn tell_or_ask(reply: &mut Reply, out: Out) -> Option<Ask>
     ensures told { IsTold out reply.old reply.new }
@@ -79,6 +68,13 @@ fn tell_or_ask(reply: &mut Reply, out: Out) -> Option<Ask>
         Out::Read(_) => None,
         Out::Submit(ask) => Some(ask),
     }
+}
+
+/// What is said goes into the reply.
+fn tell(reply: &mut Reply, out: Out)
+    ensures { IsTold out reply.old reply.new }
+{
+    let _none = tell_or_ask(reply, out);
 }
 
 /// The session takes an outcome over what the desk keeps.
@@ -166,6 +162,26 @@ fn settle_last<S: Speaks, D: Disk + Drop>(
     let _none = settle(alloc, desk, session, outcome, reply);
 }
 
+/// Asks the desk for who is logged in.
+fn ask_for<S: Speaks, D: Disk + Drop>(
+    alloc: Global,
+    desk: &mut Desk<D>,
+    session: &S,
+    at: u64,
+    ask: Ask,
+    reply: &mut Reply,
+) -> Result<Item, SubmitFault>
+    requires user { is_users ask ≡ is_some (S.speech.user session.now) }
+    requires home { is_home S.speech desk.old.kept.house session.now ≡ true }
+    requires sealed { desk.old.closed ≡ false }
+    ensures did { Submits (HaveSealed D.told desk.old desk.new) at desk.old.kept (S.speech.user session.now) ask desk.new.kept result }
+    ensures noted { reply.new ≡ record reply.old { gone = reply.old.gone ++ gone_between desk.old.kept desk.new.kept } }
+    ensures home { is_home S.speech desk.new.kept.house session.now ≡ true }
+    ensures house { desk.new.kept.house ≡ desk.old.kept.house }
+{
+    ask_desk(alloc, desk, at, session.asker(), ask, reply)
+}
+
 /// Asks the desk what the outcome of an ask led to: a turn of its own. The first stays done, whatever becomes of this.
 fn submit_further<S: Speaks, D: Disk + Drop>(
     alloc: Global,
@@ -187,7 +203,7 @@ fn submit_further<S: Speaks, D: Disk + Drop>(
     ensures turn { (h : Hindrance) ×
         Takes (HaveSealed D.told desk.old desk.new) (under h at desk.old.kept (λ service. done S.speech desk.old.kept session.old (service.asked (S.speech.user session.old) ask))) reply.old desk.new.kept session.new reply.new }
 {
-    let last = ask_desk(alloc, desk, at, session.asker(), ask, reply);
+    let last = ask_for(alloc, desk, session, at, ask, reply);
     settle_last(alloc, desk, session, &last, reply);
 }
 
@@ -213,7 +229,7 @@ fn submit<S: Speaks, D: Disk + Drop>(
         Takes (HaveSealed D.told desk.old desk.new) (under h at desk.old.kept (λ service. pursued S.speech service desk.old.kept session.old (service.asked (S.speech.user session.old) ask))) reply.old desk.new.kept session.new reply.new }
 {
     seals_join::<D>();
-    let outcome = ask_desk(alloc, desk, at, session.asker(), ask, reply);
+    let outcome = ask_for(alloc, desk, session, at, ask, reply);
     match settle(alloc, desk, session, &outcome, reply) {
         None => {}
         Some(further) => submit_further(alloc, desk, session, at, further, reply),

@@ -14,24 +14,24 @@ use Rattle.mail_loop.specs.Took.{AreThere, AsksAs, IsNext, IsNone, Takes}
 use Rattle.mail_loop.proofs.Sealed.{unsealed}
 use Rattle.mail_loop.proofs.SmtpTurns.{asks_as_of, line_gives, line_turn, next_of, none_due, none_wanted}
 use Rattle.mail_loop.proofs.Telling.{lifted}
-use Rattle.mail_loop.proofs.smtp_turn.take_line.Goals as goal
+use Rattle.mail_loop.proofs.smtp_turn.SmtpSessionServes.take_unit.Goals as goal
 
 pub take-requires-clause-free : goal.take-requires-clause-free
-take-requires-clause-free g c = none_due c.args.session.now c.requires.free
+take-requires-clause-free g c = none_due c.args.self.now c.requires.free
 
 pub follow-requires-clause-awaited : goal.follow-requires-clause-awaited
 follow-requires-clause-awaited g c =
-    let d = c.args.session.now in
+    let d = c.args.self.now in
     let e = c.take.new.self in
     subst (λ (o : Out). IsNext smtp_speech o e) (sym c.of_smtp.ensures)
-    (next_of d c.in-Ok.out e (line_gives c.house.result.now c.conf.result.now c.args.at d e c.args.line.now c.in-Ok.out (none_due d c.requires.free) c.in-Ok.ensures.ok))
+    (next_of d c.in-Ok.out e (line_gives c.house.result.now c.conf.result.now c.args.at d e c.args.line c.in-Ok.out (none_due d c.requires.free) c.in-Ok.ensures.ok))
 
 pub follow-requires-clause-user : goal.follow-requires-clause-user
 follow-requires-clause-user g c =
-    let d = c.args.session.now in
+    let d = c.args.self.now in
     let e = c.take.new.self in
     subst (λ (o : Out). AsksAs smtp_speech o e) (sym c.of_smtp.ensures)
-    (asks_as_of d c.in-Ok.out e (line_gives c.house.result.now c.conf.result.now c.args.at d e c.args.line.now c.in-Ok.out (none_due d c.requires.free) c.in-Ok.ensures.ok))
+    (asks_as_of d c.in-Ok.out e (line_gives c.house.result.now c.conf.result.now c.args.at d e c.args.line c.in-Ok.out (none_due d c.requires.free) c.in-Ok.ensures.ok))
 
 pub follow-requires-clause-home : goal.follow-requires-clause-home
 follow-requires-clause-home g c = refl
@@ -42,9 +42,9 @@ follow-requires-clause-there g c = subst (λ (o : Out). AreThere c.args.desk.now
 pub returns-in-Ok-clause-turn : goal.returns-in-Ok-clause-turn
 returns-in-Ok-clause-turn g c =
     let kept = c.args.desk.now.kept in
-    let d = c.args.session.now in
+    let d = c.args.self.now in
     let e = c.take.new.self in
-    let line = c.args.line.now in
+    let line = c.args.line in
     let house = c.house.result.now in
     let new = c.follow.new in
     let S = HaveSealed g.D.Disk.told c.args.desk.now new.desk in
@@ -52,15 +52,15 @@ returns-in-Ok-clause-turn g c =
     (ap (λ (h : House). turn h (store_of kept).conf c.args.at d line) (sym c.house.ensures.value) ∙ ap (λ (k : Conf). turn house k c.args.at d line) (sym c.conf.ensures) ∙ c.in-Ok.ensures.ok)
     (subst (λ (o : Out). (h : Hindrance) × Takes S (under h c.args.at kept (λ desk. followed smtp_speech desk kept o e)) c.args.reply.now new.desk.kept new.session new.reply) c.of_smtp.ensures c.follow.ensures.turn)
 
-pub returns-in-Err-clause-turn : goal.returns-in-Err-clause-turn
-returns-in-Err-clause-turn g c =
+pub returns-clause-turn : goal.returns-clause-turn
+returns-clause-turn g c =
     let desk = c.args.desk.now in
     let new = c.run_out_of_memory.new in
     let (h, takes) =
-    subst (λ (d : Dialog). (h : Hindrance) × ((others : Seats) → Takes IsNone (hindered smtp_session h c.args.at desk.kept others d c.args.line.now) c.args.reply.now desk.kept new.session new.reply)) c.in-Err.ensures.err
-    (c.run_out_of_memory.ensures.turn c.args.at desk.kept c.args.line.now) in (
+    subst (λ (d : Dialog). (h : Hindrance) × ((others : Seats) → Takes IsNone (hindered smtp_session h c.args.at desk.kept others d c.args.line) c.args.reply.now desk.kept new.session new.reply)) c.in-Err.ensures.err
+    (c.run_out_of_memory.ensures.turn c.args.at desk.kept c.args.line) in (
       h,
       λ others.
-          lifted (HaveSealed g.D.Disk.told desk desk) (hindered smtp_session h c.args.at desk.kept others c.args.session.now c.args.line.now) c.args.reply.now desk.kept new.session new.reply (takes others)
+          lifted (HaveSealed g.D.Disk.told desk desk) (hindered smtp_session h c.args.at desk.kept others c.args.self.now c.args.line) c.args.reply.now desk.kept new.session new.reply (takes others)
           (unsealed g.D.Disk.told c.seals_join.ensures.nothing desk),
     )
