@@ -23,8 +23,8 @@ returns-then-stood-clause-texts g c payloads texts lies =
       marks = c.in_ok-stood.ensures.marks payloads texts lies c.if-stood.true;
     }
 
-pub returns-else-stood-clause-bad : goal.returns-else-stood-clause-bad
-returns-else-stood-clause-bad g c payloads texts =
+pub returns-clause-bad : goal.returns-clause-bad
+returns-clause-bad g c payloads texts =
     (subst (λ (b : Bool). Performs (after_record c.args.desk.now.kept c.args.what) b c.follow.new.desk.kept) c.if-stood.false (c.in_ok-stood.ensures.performed payloads texts), refl)
 
 pub returns-in_err-stood-clause-bad : goal.returns-in_err-stood-clause-bad
