@@ -14,8 +14,8 @@ returns-in-Ok g c =
     (subst (λ (h : House). TellsOnly (answer 200 (report_data h c.in-Ok.report)) Rewinds c.tell_only.result) c.house.ensures.value
     (c.tell_only.ensures (report_data c.house.result.now c.in-Ok.report) c.report_json.ensures))
 
-pub returns-in-Err : goal.returns-in-Err
-returns-in-Err g c =
+pub returns : goal.returns
+returns g c =
     withdrawal_not_done g.D.Disk.told c.seals_join.ensures.still g.met.D.Disk.tells_truth c.args.at c.args.key.now c.args.of c.args.desk.now c.withdraw.new.self c.in-Err.fault c.tell_fault.result c.requires.open
     c.in-Err.ensures.why c.in-Err.ensures.wants
     (subst (λ (b : Bool). TellsWithdrawFault b c.in-Err.fault c.tell_fault.result) c.closed.ensures c.tell_fault.ensures)
