@@ -38,7 +38,7 @@ use Rattle.mail_loop.specs.Hindrance.{Hindrance, Service}
 use Rattle.mail_loop.specs.ImapTurn.{answers_awaited, imap_session, imap_speech, obeys, of_imap, out_of_memory, out_of_memory_command, takes, took_by}
 use Rattle.mail_loop.specs.Session.{Took, followed, hindered, is_answer, served, size_in}
 use Rattle.mail_loop.specs.State.{Imap, Seats, State, beside}
-use Rattle.mail_loop.specs.Turns.{hears_commands}
+use Rattle.privacy_laws.proofs.Hearing.{hears_commands}
 use Rattle.privacy_laws.specs.Agreeing.{Agree, is_alike}
 use Rattle.privacy_laws.specs.Clients.{IsReaderOf, IsSeatOf, are_only_of, comes_only, logs_in_only, reads_only}
 use Rattle.privacy_laws.proofs.Following.{AlikeHeard, IsSame, heard_by_same, turns_same}

@@ -9,6 +9,7 @@ pub mod Services
 pub mod Following
 pub mod Turning
 pub mod Reading
+pub mod Hearing
 pub mod Outside
 pub mod Events
 pub mod Places

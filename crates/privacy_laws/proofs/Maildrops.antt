@@ -45,7 +45,7 @@ use Rattle.mail_loop.specs.PopTurn.{in_use, of_pop, pop_session, pop_speech, too
 use Rattle.mail_loop.specs.PopTurn as pop_turn
 use Rattle.mail_loop.specs.Session.{Took, followed, hindered, served, size_in}
 use Rattle.mail_loop.specs.State.{Pop, Seats, State, beside}
-use Rattle.mail_loop.specs.Turns.{fetches}
+use Rattle.privacy_laws.proofs.Hearing.{fetches}
 use Rattle.privacy_laws.specs.Agreeing.{Agree, is_alike}
 use Rattle.privacy_laws.specs.Clients.{IsFetcherOf, IsSeatOf, all_pass_only, enters_only, is_fetcher_in, is_number_of, line_is_of, lines_are_of, name_in, name_only, passes_only}
 use Rattle.privacy_laws.proofs.Bodies.{own_pass}

@@ -43,7 +43,8 @@ use Rattle.mail_loop.specs.Session.{Session, Speech, Took, hindered, served}
 use Rattle.mail_loop.specs.SmtpTurn.{memory_told, out_of_memory as smtp_memory, smtp_session, smtp_speech, took_by}
 use Rattle.mail_loop.specs.State.{Imap, Pop, Seat, Seats, Smtp, State, beside}
 use Rattle.mail_loop.specs.Turn.{Turn, lost, says}
-use Rattle.mail_loop.specs.Turns.{Heard, Outcome as Left, fetches, goes_on, heard_by, hears_commands, hears_lines, outcome_of, turn_of, turns}
+use Rattle.mail_loop.specs.Turns.{Heard, Outcome as Left, goes_on, heard_by, outcome_of, turn_of, turns}
+use Rattle.privacy_laws.proofs.Hearing.{fetches, hears_commands, hears_lines}
 use Rattle.privacy_laws.specs.Agreeing.{Agree, is_alike}
 use Rattle.privacy_laws.specs.Clients.{IsFetcherOf, IsReaderOf, all_pass_only, are_only_of, comes_only, is_fetcher_in, line_is_of, lines_are_of}
 use Rattle.privacy_laws.proofs.Beside.{agree_itself}

@@ -36,7 +36,7 @@ use Rattle.mail_loop.specs.Machine.{IsPassed}
 use Rattle.mail_loop.specs.Serving.{Step, at_first, run}
 use Rattle.mail_loop.specs.State.{Imap, Seat, Seats, Smtp, State}
 use Rattle.mail_loop.specs.PopTurn.{pop_session}
-use Rattle.mail_loop.specs.Turns.{fetches, hears_commands, hears_lines}
+use Rattle.privacy_laws.proofs.Hearing.{fetches, hears_commands, hears_lines}
 use Rattle.privacy_laws.specs.Agreeing.{Agree}
 use Rattle.privacy_laws.specs.Clients.{are_only_of, lines_are_of}
 use Rattle.privacy_laws.specs.Senders.{AgreeForMail}

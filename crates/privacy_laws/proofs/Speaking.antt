@@ -11,7 +11,8 @@ use Rattle.verb_core.specs.declared.conf.House.{House}
 use Rattle.mail_loop.specs.Hindrance.{Hindrance}
 use Rattle.mail_loop.specs.SmtpTurn.{smtp_session}
 use Rattle.mail_loop.specs.State.{Http, Imap, Pop, Seat, Smtp, State, beside}
-use Rattle.mail_loop.specs.Turns.{hears_lines, hears_seat}
+use Rattle.mail_loop.specs.Turns.{hears_seat}
+use Rattle.privacy_laws.proofs.Hearing.{hears_lines}
 use Rattle.privacy_laws.specs.Agreeing.{Agree}
 use Rattle.privacy_laws.specs.Clients.{IsSeatOf, SameUse, bytes_are_of}
 use Rattle.privacy_laws.specs.Senders.{AgreeForMail}
