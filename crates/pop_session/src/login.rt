@@ -14,7 +14,7 @@ ghost use Rattle.std.specs.Prelude.{◌≡◌, false, IfOk, OnErr, IsTrue, Some,
 ghost use Rattle.std.specs.List.{list_any};
 ghost use Rattle.shelf.specs.Notes.{size_of};
 ghost use Rattle.verb_core.specs.Boxes.{box_cmp, box_of, is_rising, row_at, same_user};
-ghost use Rattle.verb_core.specs.Names.{inbox as inbox_name};
+ghost use Rattle.verb_core.specs.Names.{inbox as always_inbox};
 ghost use Rattle.verb_core.specs.Store.{is_house};
 ghost use Rattle.pop_session.specs.Maildrop as drops;
 ghost use Rattle.pop_session.specs.Dialog.{took};
@@ -24,13 +24,13 @@ use crate::answer::Answer;
 use crate::dialog::{Awaits, Dialog, Pending, Stage};
 use crate::maildrop::{Maildrop, messages_of};
 use crate::out::PopOut;
-use crate::transaction::{inbox, mail_of, say};
+use crate::transaction::{mail_of, say};
 use box_store::Store;
 use shelf::Shelf;
 use std::alloc::Global;
 use std::cmp::Ordering;
 use undo_base::{Keys, MOST_KEYS, Name, NoMemory, Text, User, Users};
-use verb_core::{Account, Ask, BoxId, House, Stamps};
+use verb_core::{Account, Ask, BoxId, House, Stamps, inbox_name};
 
 /// USER: a name that was given before is given up.
 pub(crate) fn give_name(alloc: Global, dialog: &mut Dialog, name: &[u8]) -> Result<PopOut, NoMemory>
@@ -105,7 +105,7 @@ fn maildrop_of(
     inbox: &Name,
 ) -> Result<Maildrop, NoMemory>
     requires rising { IsTrue (is_rising stamps.now) }
-    requires name { inbox.now ≡ inbox_name }
+    requires name { inbox.now ≡ always_inbox }
     ensures { IfOk result (λ maildrop. maildrop ≡ drops.maildrop_of store.now.store stamps.now (size_of sizes.now.notes) user) }
 {
     let messages = messages_of(alloc, sizes, mail_of(store, user, inbox))?;
@@ -131,7 +131,7 @@ fn ask_to_enter(
     user: User,
     maildrop: Maildrop,
 ) -> PopOut
-    requires { inbox ≡ inbox_name }
+    requires { inbox ≡ always_inbox }
     ensures { spec.asks (spec.fetch_of keys false) (Pending.Enter user maildrop) dialog.old ≡ took result dialog.new }
 {
     dialog.awaits = Awaits::Outcome {
@@ -154,7 +154,7 @@ fn enter(
     user: User,
     maildrop: Maildrop,
 ) -> Result<PopOut, NoMemory>
-    requires { inbox ≡ inbox_name }
+    requires { inbox ≡ always_inbox }
     ensures ok { IfOk result (λ out. spec.enter user maildrop dialog.old ≡ took out dialog.new) }
     ensures err { OnErr result (dialog.new ≡ dialog.old) }
 {
@@ -182,7 +182,7 @@ fn log_in(
     if is_in_use(in_use.as_slice(), user) {
         return fail(alloc, dialog, Answer::InUse);
     }
-    let inbox = inbox(alloc)?;
+    let inbox = inbox_name(alloc)?;
     let maildrop = maildrop_of(alloc, store, stamps, sizes, user, &inbox)?;
     enter(alloc, dialog, inbox, user, maildrop)
 }

@@ -12,13 +12,13 @@ use crate::dialog::{Awaits, Dialog, Pending, Stage, Wanted};
 use crate::maildrop::Maildrop;
 use crate::out::PopOut;
 use crate::sending::retrieved;
-use crate::transaction::{inbox, say, say_nothing};
+use crate::transaction::{say, say_nothing};
 use crate::update::end;
 use seal_log::ReadFault;
 use std::alloc::Global;
 use std::mem;
 use undo_base::{Key, Keys, Name, NoMemory, Text, User};
-use verb_core::{Ask, Item, SubmitFault};
+use verb_core::{Ask, Item, SubmitFault, inbox_name};
 
 fn one_key(alloc: Global, key: Key) -> Result<Keys, NoMemory>
     ensures { IfOk result (λ keys. keys ≡ key ∷ []) }
@@ -33,7 +33,7 @@ fn fetch_of(alloc: Global, key: Key) -> Result<Ask, NoMemory>
     ensures { IfOk result (λ ask. ask ≡ spec.fetch_of (key ∷ []) true) }
 {
     Ok(Ask::Fetch {
-        mailbox: inbox(alloc)?,
+        mailbox: inbox_name(alloc)?,
         keys: one_key(alloc, key)?,
         sets_seen: false,
         shows_body: true,

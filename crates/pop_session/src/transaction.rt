@@ -7,7 +7,7 @@ ghost use Rattle.undo_base.specs.declared.keys.User.{User as TheUser};
 ghost use Rattle.verb_core.specs.declared.mailbox.Entry.{Entry as TheEntry};
 ghost use Rattle.verb_core.specs.Live.{mail_of as mail_in};
 ghost use Rattle.verb_core.specs.Mailboxes.{entry_of as entry_in, same_key};
-ghost use Rattle.verb_core.specs.Names.{inbox as inbox_name};
+ghost use Rattle.verb_core.specs.Names.{inbox as always_inbox};
 ghost use Rattle.pop_session.specs.declared.dialog.Awaits.{Awaits as TheAwaits};
 ghost use Rattle.pop_session.specs.declared.dialog.Dialog.{Dialog as TheDialog};
 ghost use Rattle.pop_session.specs.declared.dialog.Stage.{Stage as TheStage};
@@ -24,7 +24,7 @@ use crate::out::PopOut;
 use box_store::Store;
 use std::alloc::Global;
 use undo_base::{Key, Name, NoMemory, Text, User};
-use verb_core::{Body, Entry};
+use verb_core::{Body, Entry, inbox_name};
 
 /// An answer, after which the dialog goes on.
 pub(crate) fn say(alloc: Global, answer: Answer) -> Result<PopOut, NoMemory>
@@ -39,13 +39,6 @@ pub(crate) fn say_nothing(alloc: Global) -> PopOut
     ensures { result ≡ PopOut.Say [] }
 {
     PopOut::Say(Text::new(alloc))
-}
-
-/// The name of the mailbox that a maildrop is made of.
-pub(crate) fn inbox(alloc: Global) -> Result<Name, NoMemory>
-    ensures { IfOk result (λ name. name ≡ inbox_name) }
-{
-    Name::of(alloc, b"INBOX")
 }
 
 /// What lies in a user's mailbox: nothing where it is missing.
@@ -181,9 +174,9 @@ fn read_text(
 }
 
 fn body_in(alloc: Global, store: &Store, user: User, key: Key) -> Result<Option<Body>, NoMemory>
-    ensures { IfOk result (λ body. body ≡ option_map (λ (e : TheEntry). e.body) (entry_in (mail_in store.now.store (Some user) inbox_name) key)) }
+    ensures { IfOk result (λ body. body ≡ option_map (λ (e : TheEntry). e.body) (entry_in (mail_in store.now.store (Some user) always_inbox) key)) }
 {
-    let inbox = inbox(alloc)?;
+    let inbox = inbox_name(alloc)?;
     Ok(find_body(mail_of(store, user, &inbox), key))
 }
 

@@ -9,10 +9,9 @@ ghost use Rattle.pop_session.specs.Dialog as spec;
 use crate::answer::{Answer, write_answer};
 use crate::dialog::{Awaits, Dialog, Pending, Stage};
 use crate::out::PopOut;
-use crate::transaction::inbox;
 use std::alloc::Global;
 use undo_base::{Copies, Flags, How, Keys, Name, NoMemory};
-use verb_core::Ask;
+use verb_core::{Ask, inbox_name};
 
 /// A dialog as it is where the connection was made just now.
 pub(crate) fn new_dialog() -> Dialog
@@ -72,7 +71,7 @@ fn store_of(alloc: Global, keys: &Keys) -> Result<Ask, NoMemory>
     ensures { IfOk result (λ ask. ask ≡ spec.store_of keys.now) }
 {
     Ok(Ask::Store {
-        mailbox: inbox(alloc)?,
+        mailbox: inbox_name(alloc)?,
         keys: keys.copy(alloc)?,
         how: How::Add,
         flags: deleted_flag(),
@@ -90,6 +89,6 @@ pub(crate) fn quit(alloc: Global, dialog: &mut Dialog) -> Result<PopOut, NoMemor
         return end(alloc, dialog, Answer::Closing);
     }
     let ask = store_of(alloc, &keys)?;
-    let mailbox = inbox(alloc)?;
+    let mailbox = inbox_name(alloc)?;
     Ok(ask_to_mark(dialog, ask, mailbox, keys))
 }
