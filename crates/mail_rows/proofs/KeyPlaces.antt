@@ -6,6 +6,7 @@ use Rattle.std.specs.List.Sorted.{IsBinarySearchResult, IsNonDecreasingBy, IsStr
 use Rattle.std.specs.Ordering.{ordering_index, ordering_reverse}
 use Rattle.std.proofs.lemmas.Bool.{cases_order}
 use Rattle.std.proofs.lemmas.Cmp.{alike_right, tied_itself}
+use Rattle.std.proofs.lemmas.List.{get_or_default}
 use Rattle.std.proofs.lemmas.Map.Keys.{sorted_head}
 use Rattle.undo_base.specs.declared.keys.Key.{Key}
 use Rattle.undo_base.specs.declared.keys.Flags.{Flags}
@@ -105,6 +106,11 @@ module _ (es : List Entry) (rise : keys_rise es ≡ true) (key : Key) where
     where
       later : (j : ℕ) (d : Entry) → key_cmp (get_or es j d).key key ≡ Greater → same_key key (get_or es j d).key ≡ false
       later j d more = apart_below key (get_or es j d).key (keys_total.antisymm key (get_or es j d).key ∙ ap ordering_reverse more)
+
+-- an entry that has the key stands where the key does
+pub key_at_place : (es : List Entry) (key : Key) (at : ℕ) (d : Entry) → at < length es → same_key key (get_or es at d).key ≡ true → IsKeyPlace key es (Some at)
+key_at_place es key at d within same =
+    (within, λ x. ap (λ (e : Entry). e.key) (get_or_default es at x d within) ∙ sym (one_key key (get_or es at d).key same))
 
 -- ---- the entry at the place
 

@@ -4,7 +4,7 @@ ghost use Rattle.verb_core.specs.KeyOrder.{keys_rise};
 ghost use Rattle.verb_core.specs.Mailboxes.{changed, is_among};
 ghost use Rattle.mail_rows.specs.Changes.{changes_from};
 
-use crate::places::key_place;
+use crate::places::key_near;
 use crate::{FlagChange, KeySet};
 use std::alloc::Global;
 use undo_base::{Flags, How, Key, NoMemory, Sequence};
@@ -54,20 +54,24 @@ fn push_found(
     key: Key,
     how: How,
     given: Flags,
+    near: &mut usize,
 ) -> Result<(), NoMemory>
     requires { IsTrue (keys_rise entries.now) }
     ensures { OnOk result (changes.new ≡ changes.old ++ changes_from 0 (key ∷ []) how given entries.now) }
 {
-    match key_place(entries, key) {
+    match key_near(entries, key, *near) {
         None => Ok(()),
-        Some(place) => changes.push(FlagChange {
-            place,
-            flags: flags_after(how, given, entries[place].flags),
-        }),
+        Some(place) => {
+            *near = place.saturating_add(1);
+            changes.push(FlagChange {
+                place,
+                flags: flags_after(how, given, entries[place].flags),
+            })
+        }
     }
 }
 
-/// What a STORE changes in a mailbox whose keys rise: the keys in their order, each found by halves.
+/// What a STORE changes in a mailbox whose keys rise: the keys in their order, each looked for behind the one before it, and else found by halves.
 fn changes_found(
     alloc: Global,
     entries: &[Entry],
@@ -79,8 +83,9 @@ fn changes_found(
     ensures { IfOk result (λ changes. changes ≡ changes_from 0 keys.now how given entries.now) }
 {
     let mut changes = Sequence::new(alloc);
+    let mut near = 0;
     for key in keys.keys().iter() {
-        push_found(&mut changes, entries, *key, how, given)?;
+        push_found(&mut changes, entries, *key, how, given, &mut near)?;
     }
     Ok(changes)
 }

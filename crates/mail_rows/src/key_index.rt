@@ -7,7 +7,7 @@ ghost use Rattle.mail_rows.specs.Indexed.{found_at, indexed, no_deleted};
 ghost use Rattle.mail_rows.specs.Lookups.{beside, AreInOrder};
 
 use crate::KeySet;
-use crate::places::entry_of;
+use crate::places::{entry_near, entry_of};
 use std::alloc::Global;
 use std::collections::BTreeMap;
 use std::marker::Model;
@@ -49,6 +49,16 @@ fn look_up(lookup: &Lookup<'_>, key: Key) -> Option<Entry>
 {
     match lookup {
         Lookup::Halves(entries) => entry_of(entries, key),
+        Lookup::Noted(found) => found.get(&key).copied(),
+    }
+}
+
+fn look_up_near(lookup: &Lookup<'_>, key: Key, near: &mut usize) -> Option<Entry>
+    requires { AreInOrder lookup.now }
+    ensures { result ≡ found_at (beside lookup.now) key }
+{
+    match lookup {
+        Lookup::Halves(entries) => entry_near(entries, key, near),
         Lookup::Noted(found) => found.get(&key).copied(),
     }
 }
@@ -144,5 +154,12 @@ impl<'a> KeyIndex<'a> {
         ensures { result ≡ found_at self.now key }
     {
         look_up(&self.lookup, key)
+    }
+
+    /// The entry of a key; where keys rise it is looked for at a place first, and what is left there serves the next.
+    pub(crate) fn find_near(&self, key: Key, near: &mut usize) -> Option<Entry>
+        ensures { result ≡ found_at self.now key }
+    {
+        look_up_near(&self.lookup, key, near)
     }
 }

@@ -12,10 +12,15 @@ use undo_base::{Key, Keys, NoMemory};
 use verb_core::{EntriesView, Entry, Sight, Sights};
 
 /// Adds the key, where it has an entry.
-fn push_there(there: &mut Keys, index: &KeyIndex<'_>, key: Key) -> Result<(), NoMemory>
+fn push_there(
+    there: &mut Keys,
+    index: &KeyIndex<'_>,
+    key: Key,
+    near: &mut usize,
+) -> Result<(), NoMemory>
     ensures { OnOk result (there.new ≡ there.old ++ (if is_some (found_at index.now key) then key ∷ [] else [])) }
 {
-    if index.find(key).is_some() {
+    if index.find_near(key, near).is_some() {
         there.push(key)?;
     }
     Ok(())
@@ -26,8 +31,9 @@ fn there_in(alloc: Global, index: &KeyIndex<'_>, keys: &[Key]) -> Result<Keys, N
     ensures { IfOk result (λ there. there ≡ there_by index.now keys.now) }
 {
     let mut there = Keys::new(alloc);
+    let mut near = 0;
     for key in keys {
-        push_there(&mut there, index, *key)?;
+        push_there(&mut there, index, *key, &mut near)?;
     }
     Ok(there)
 }
@@ -49,10 +55,15 @@ pub(crate) fn left_of(alloc: Global, entries: &[Entry], keys: &[Key]) -> Result<
 }
 
 /// Adds the key with the rev of its body, where it has an entry.
-fn push_sight(sights: &mut Sights, index: &KeyIndex<'_>, key: Key) -> Result<(), NoMemory>
+fn push_sight(
+    sights: &mut Sights,
+    index: &KeyIndex<'_>,
+    key: Key,
+    near: &mut usize,
+) -> Result<(), NoMemory>
     ensures { OnOk result (sights.new ≡ sights.old ++ cons_option (sight_at index.now key) []) }
 {
-    match index.find(key) {
+    match index.find_near(key, near) {
         None => Ok(()),
         Some(entry) => sights.push(Sight {
             key,
@@ -66,8 +77,9 @@ fn sights_in(alloc: Global, index: &KeyIndex<'_>, keys: &[Key]) -> Result<Sights
     ensures { IfOk result (λ sights. sights ≡ sights_by index.now keys.now) }
 {
     let mut sights = Sights::new(alloc);
+    let mut near = 0;
     for key in keys {
-        push_sight(&mut sights, index, *key)?;
+        push_sight(&mut sights, index, *key, &mut near)?;
     }
     Ok(sights)
 }
