@@ -6,6 +6,7 @@ use Rattle.touch_rules.specs.declared.touched.Touch.{Touch}
 use Rattle.touch_rules.specs.Commuting.{are_independent, commute}
 use Rattle.replay_plan.specs.declared.slots.Part.TheVariants.{Level}
 use Rattle.replay_plan.specs.declared.slots.Slot.{Slot}
+use Rattle.replay_plan.specs.declared.slots.Sides.{Sides}
 use Rattle.replay_plan.specs.Placing.{Placed, may_have, level_behind, highest}
 use Rattle.replay_plan.specs.Slots.{Spot, level_at, parts_of, asked_by, is_at, asked_on, last_at, taken_at, at_level, TellsLevels, Knows, Leads, SameTaken, bound, is_avoided, IsUntaken}
 use Rattle.replay_plan.proofs.Gathered.{highest_is_max}
@@ -61,7 +62,7 @@ same_test false true i h e one lower = ap (λ t. i || not t) (lower refl) ∙ ei
     either false false = refl
 same_test false false i h e one lower = refl
 
-module _ (earlier : List Placed) (last next : List (Slot × ℕ)) (touches : List Touch) (tells : TellsLevels earlier last) (knows : Knows earlier next) where
+module _ (earlier : List Placed) (last next : List (Slot × Sides)) (touches : List Touch) (tells : TellsLevels earlier last) (knows : Knows earlier next) where
   -- a level is above the bound where each that does not commute has a lower one
   bound_is : (level : ℕ) → 1 ≤ level → nat_lt (bound last touches) level ≡ list_all (λ (e : Placed). commute e.0 touches || nat_lt e.1 level) earlier
   bound_is level low =
@@ -150,7 +151,7 @@ last_below (e ∷ earlier) s = elim (list_any (λ a. is_at (parts_of a) a s) e.0
   | false ↦ let r : last_at earlier s ≤ highest (map (λ (p : Placed). p.1) earlier) = last_below earlier s in omega (arith, r)
 ]
 
-pub bound_below : (earlier : List Placed) (last : List (Slot × ℕ)) (touches : List Touch) → TellsLevels earlier last → bound last touches ≤ highest (map (λ (e : Placed). e.1) earlier)
+pub bound_below : (earlier : List Placed) (last : List (Slot × Sides)) (touches : List Touch) → TellsLevels earlier last → bound last touches ≤ highest (map (λ (e : Placed). e.1) earlier)
 bound_below earlier last touches tells =
     highest_below (λ b. highest (map (λ p. level_at last (asked_on b p)) (asked_by b))) (highest (map (λ (e : Placed). e.1) earlier))
     (λ b. highest_below (λ p. level_at last (asked_on b p)) (highest (map (λ (e : Placed). e.1) earlier))
@@ -168,16 +169,16 @@ seconds (x ∷ all) (l ∷ levels) h = ap (λ ls. l ∷ ls) (seconds all levels 
 no_items : (all : List (List Touch)) (levels : List ℕ) → levels ≡ [] → zip all levels ≡ []
 no_items all levels none = ap (zip all) none ∙ zip_none all
 
-pub start_tells : (all : List (List Touch)) (levels : List ℕ) (last : List (Slot × ℕ)) → levels ≡ [] → ((s : Spot) → level_at last s ≡ 0) → TellsLevels (zip all levels) last
+pub start_tells : (all : List (List Touch)) (levels : List ℕ) (last : List (Slot × Sides)) → levels ≡ [] → ((s : Spot) → level_at last s ≡ 0) → TellsLevels (zip all levels) last
 start_tells all levels last none new s = new s ∙ ap (λ (ps : List Placed). last_at ps s) (sym (no_items all levels none))
 
-pub start_knows : (all : List (List Touch)) (levels : List ℕ) (next : List (Slot × ℕ)) → levels ≡ [] → ((s : Spot) → level_at next s ≡ 0) → Knows (zip all levels) next
+pub start_knows : (all : List (List Touch)) (levels : List ℕ) (next : List (Slot × Sides)) → levels ≡ [] → ((s : Spot) → level_at next s ≡ 0) → Knows (zip all levels) next
 start_knows all levels next none new s = ap (nat_lt 0) (new s) ∙ ap (λ (ps : List Placed). taken_at ps s) (sym (no_items all levels none))
 
-pub start_leads : (end : ℕ) (next : List (Slot × ℕ)) → ((s : Spot) → level_at next s ≡ 0) → Leads end next
+pub start_leads : (end : ℕ) (next : List (Slot × Sides)) → ((s : Spot) → level_at next s ≡ 0) → Leads end next
 start_leads end next new s l h = let e : level_at next (at_level s l) ≡ 0 = new (at_level s l) in absurd (omega (arith, h, e))
 
-module _ (all : List (List Touch)) (levels : List ℕ) (place : ℕ) (last next : List (Slot × ℕ)) (touches : List Touch)
+module _ (all : List (List Touch)) (levels : List ℕ) (place : ℕ) (last next : List (Slot × Sides)) (touches : List Touch)
     (count : length levels ≡ place) (lt : place < length all) (few : highest levels ≤ place) (tells : TellsLevels (zip all levels) last) (knows : Knows (zip all levels) next) where
   fits : length levels ≤ length all
   fits = omega (arith, count, lt)
@@ -205,10 +206,10 @@ module _ (all : List (List Touch)) (levels : List ℕ) (place : ℕ) (last next 
     pub few_next : level ≤ place + 1 → highest new ≤ place + 1
     few_next low = let e : highest new ≡ max (highest levels) level = ap highest made ∙ highest_is_max levels level in omega (arith, e, few, low)
 
-    pub tells_next : (last' : List (Slot × ℕ)) → ((s : Spot) → level_at last' s ≡ max (cond (list_any (λ a. is_at (parts_of a) a s) touches) level 0) (level_at last s)) → TellsLevels (zip all new) last'
+    pub tells_next : (last' : List (Slot × Sides)) → ((s : Spot) → level_at last' s ≡ max (cond (list_any (λ a. is_at (parts_of a) a s) touches) level 0) (level_at last s)) → TellsLevels (zip all new) last'
     tells_next last' raised s =
         raised s ∙ ap (max (cond (list_any (λ a. is_at (parts_of a) a s) touches) level 0)) (tells s) ∙ sym (last_more (zip all levels) (touches, level) s) ∙ ap (λ (ps : List Placed). last_at ps s) (sym pushed)
 
-    pub knows_next : (mid next' : List (Slot × ℕ)) → SameTaken next mid → ((s : Spot) → nat_lt 0 (level_at next' s) ≡ (list_any (λ a. is_at (Level level ∷ []) a s) touches || nat_lt 0 (level_at mid s))) → Knows (zip all new) next'
+    pub knows_next : (mid next' : List (Slot × Sides)) → SameTaken next mid → ((s : Spot) → nat_lt 0 (level_at next' s) ≡ (list_any (λ a. is_at (Level level ∷ []) a s) touches || nat_lt 0 (level_at mid s))) → Knows (zip all new) next'
     knows_next mid next' same taken s =
         taken s ∙ ap (λ b. list_any (λ a. is_at (Level level ∷ []) a s) touches || b) (same s ∙ knows s) ∙ sym (taken_more (zip all levels) (touches, level) s) ∙ ap (λ (ps : List Placed). taken_at ps s) (sym pushed)

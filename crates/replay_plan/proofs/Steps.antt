@@ -1,16 +1,17 @@
 -- One touch, part or level more in what is kept of the earlier items.
 use Rattle.std.proofs.Common.{◌≡◌, ℕ, zero, suc, ◌+◌, ◌-◌, ◌<◌, ◌≤◌, max, Bool, true, false, not, ◌&&◌, ◌||◌, cond, nat_lt, List, [], ◌∷◌, ◌++◌, map, length, take, get_or, refl, sym, ap, ap₂, subst, ◌∙◌, arith, true≢false}
 use Rattle.std.specs.List.{list_any}
+use Rattle.std.specs.Cmp.{second_so}
 use Rattle.std.proofs.lemmas.Bool.{lt-ltb, ltb-true}
 use Rattle.std.proofs.lemmas.List.{take_more}
 use Rattle.touch_rules.specs.declared.touched.Touch.{Touch}
-use Rattle.verb_core.specs.Boxes.{same_user}
-use Rattle.touch_rules.specs.Commuting.{user_of, same_mailbox, does_write}
+use Rattle.touch_rules.specs.Commuting.{does_write}
 use Rattle.replay_plan.specs.declared.slots.Part.{Part}
 use Rattle.replay_plan.specs.declared.slots.Part.TheVariants.{Level}
 use Rattle.replay_plan.specs.declared.slots.Slot.{Slot}
+use Rattle.replay_plan.specs.declared.slots.Sides.{Sides}
 use Rattle.replay_plan.specs.Placing.{highest}
-use Rattle.replay_plan.specs.Slots.{Spot, mailbox_at, spot_on, same_spot, same_part, same_way, level_at, at_level, is_at, asked_on, is_avoided, Leads, SameTaken, IsNextFree, IsPast}
+use Rattle.replay_plan.specs.Slots.{Spot, spot_on, same_spot, level_at, at_level, is_at, asked_on, is_avoided, Leads, SameTaken, IsNextFree, IsPast}
 use Rattle.replay_plan.proofs.Tables.{one_spot, spot_itself}
 
 any_append : {X : Type 0} (f : X → Bool) (xs : List X) (x : X) → list_any f (xs ++ x ∷ []) ≡ (f x || list_any f xs)
@@ -38,48 +39,25 @@ pub raise_more : {X : Type 0} (f : X → Bool) (xs : List X) (i : ℕ) (d : X) (
 raise_more f xs i d level old mid now here lt is n m =
     n ∙ ap₂ (λ h r. max (cond h level 0) r) is m ∙ raised (f (get_or xs i d)) (list_any f (take i xs)) level old ∙ ap (λ b. max (cond b level 0) old) (sym (any_take f xs i d lt))
 
-pub not_raised : (b : Bool) (level old : ℕ) → (b ≡ true → level ≤ old) → old ≡ max (cond b level 0) old
-not_raised true level old h = let l : level ≤ old = h refl in omega (arith, l)
-not_raised false level old h = omega arith
+or_false : (b : Bool) → (b || false) ≡ b
+or_false true = refl
+or_false false = refl
 
-pub raised_to : (b : Bool) (level old now : ℕ) → now ≡ cond b level old → (b ≡ true → old ≤ level) → now ≡ max (cond b level 0) old
-raised_to true level old now h low = let l : old ≤ level = low refl in omega (arith, h, l)
-raised_to false level old now h low = omega (arith, h)
+-- a slot raised by a touch is at the spots of its part
+pub raised_here : (a : Touch) (spot : Spot) (p : Part) (w : Bool) (t : Spot) → w ≡ does_write a → t ≡ spot_on a spot.written p → ((not spot.written || w) && same_spot spot t) ≡ is_at (p ∷ []) a spot
+raised_here a spot p w t way at =
+    ap₂ (λ x y. (not spot.written || x) && same_spot spot y) way at
+    ∙ ap (λ b. (not spot.written || does_write a) && b) (sym (or_false (same_spot spot (spot_on a spot.written p))))
 
-module _ (a : Touch) (spot : Spot) where
-  -- what a slot of the other way has is not at the spot
-  other_way : (w : Bool) (parts : List Part) → same_way spot.written w ≡ false → list_any (λ p. same_spot spot (spot_on a w p)) parts ≡ false
-  other_way w [] h = refl
-  other_way w (p ∷ parts) h = ap₂ (λ x y. x || y) (off p) (other_way w parts h)
-    where
-      three : (x y z : Bool) → (x && (y && (false && z))) ≡ false
-      three true true z = refl
-      three true false z = refl
-      three false y z = refl
-
-      off : (p : Part) → same_spot spot (spot_on a w p) ≡ false
-      off p = ap (λ t. same_user spot.user (user_of a) && (same_mailbox spot.mailbox (mailbox_at a p) && (t && same_part spot.part p))) h ∙ three (same_user spot.user (user_of a)) (same_mailbox spot.mailbox (mailbox_at a p)) (same_part spot.part p)
-
-  -- a touch is at a spot by reading or by writing
-  pub both_ways : (parts : List Part) → is_at parts a spot ≡ ((does_write a && list_any (λ p. same_spot spot (spot_on a true p)) parts) || list_any (λ p. same_spot spot (spot_on a false p)) parts)
-  both_ways parts = go spot.written refl
-    where
-      go : (w : Bool) → spot.written ≡ w → is_at parts a spot ≡ ((does_write a && list_any (λ p. same_spot spot (spot_on a true p)) parts) || list_any (λ p. same_spot spot (spot_on a false p)) parts)
-      go true h =
-          ap (λ w. (not w || does_write a) && list_any (λ p. same_spot spot (spot_on a w p)) parts) h
-          ∙ last (does_write a && list_any (λ p. same_spot spot (spot_on a true p)) parts) (list_any (λ p. same_spot spot (spot_on a false p)) parts) (other_way false parts (ap (λ w. same_way w false) h))
-        where
-          last : (x y : Bool) → y ≡ false → x ≡ (x || y)
-          last true y h = refl
-          last false y h = sym h
-      go false h =
-          ap (λ w. (not w || does_write a) && list_any (λ p. same_spot spot (spot_on a w p)) parts) h
-          ∙ last (does_write a) (list_any (λ p. same_spot spot (spot_on a true p)) parts) (list_any (λ p. same_spot spot (spot_on a false p)) parts) (other_way true parts (ap (λ w. same_way w true) h))
-        where
-          last : (x y z : Bool) → y ≡ false → z ≡ ((x && y) || z)
-          last true true z h = absurd (true≢false h)
-          last true false z h = refl
-          last false y z h = refl
+-- a touch is at a spot by one of its parts
+pub one_by_part : (a : Touch) (spot : Spot) (parts : List Part) → list_any (λ p. is_at (p ∷ []) a spot) parts ≡ is_at parts a spot
+one_by_part a spot parts = out (not spot.written || does_write a) parts
+  where
+    out : (x : Bool) (ps : List Part) → list_any (λ p. x && (same_spot spot (spot_on a spot.written p) || false)) ps ≡ (x && list_any (λ p. same_spot spot (spot_on a spot.written p)) ps)
+    out true [] = refl
+    out true (p ∷ ps) = ap₂ (λ b c. b || c) (or_false (same_spot spot (spot_on a spot.written p))) (out true ps)
+    out false [] = refl
+    out false (p ∷ ps) = out false ps
 
 pub highest_next : {X : Type 0} (f : X → ℕ) (xs : List X) (i : ℕ) (d : X) (now old here : ℕ) → i < length xs → here ≡ f (get_or xs i d) → now ≡ max old here → old ≡ highest (map f (take i xs)) → now ≡ highest (map f (take (i + 1) xs))
 highest_next f xs i d now old here lt is n o =
@@ -89,27 +67,8 @@ highest_next f xs i d now old here lt is n o =
     highest_append [] y = omega arith
     highest_append (x ∷ ys) y = let r : highest (map f (ys ++ y ∷ [])) ≡ max (highest (map f ys)) (f y) = highest_append ys y in omega (arith, r)
 
-pub level_raised : (old new : List (Slot × ℕ)) (s t : Spot) (level got : ℕ) → level_at new s ≡ cond (same_spot s t) level (level_at old s) → got ≡ level_at old t → got < level → level_at new s ≡ max (cond (same_spot s t) level 0) (level_at old s)
-level_raised old new s t level got h is low = raised_to (same_spot s t) level (level_at old s) (level_at new s) h
-    (λ one. let e : level_at old s ≡ level_at old t = ap (level_at old) (one_spot s t one) in omega (arith, e, is, low))
-
-pub level_kept : (old : List (Slot × ℕ)) (s t : Spot) (level got : ℕ) → got ≡ level_at old t → level ≤ got → level_at old s ≡ max (cond (same_spot s t) level 0) (level_at old s)
-level_kept old s t level got is high = not_raised (same_spot s t) level (level_at old s)
-    (λ one. let e : level_at old s ≡ level_at old t = ap (level_at old) (one_spot s t one) in omega (arith, e, is, high))
-
 pub asked_at : (a : Touch) (w : Bool) (s : Spot) (p : Part) → s ≡ spot_on a (not w) p → w ≡ does_write a → s ≡ asked_on a p
 asked_at a w s p h is = h ∙ ap (λ t. spot_on a (not t) p) is
-
-module _ (a : Touch) (spot : Spot) (parts : List Part) (level old : ℕ) where
-  pub raised_reading : (w : Bool) (now : ℕ) → w ≡ does_write a → w ≡ false → now ≡ max (cond (list_any (λ p. same_spot spot (spot_on a false p)) parts) level 0) old → now ≡ max (cond (is_at parts a spot) level 0) old
-  raised_reading w now is off h = h ∙ ap (λ b. max (cond b level 0) old) (sym (both_ways a spot parts ∙ ap (λ t. (t && list_any (λ p. same_spot spot (spot_on a true p)) parts) || list_any (λ p. same_spot spot (spot_on a false p)) parts) (sym is ∙ off)))
-
-  pub raised_writing : (w : Bool) (mid now : ℕ) → w ≡ does_write a → w ≡ true → mid ≡ max (cond (list_any (λ p. same_spot spot (spot_on a false p)) parts) level 0) old → now ≡ max (cond (list_any (λ p. same_spot spot (spot_on a true p)) parts) level 0) mid
-      → now ≡ max (cond (is_at parts a spot) level 0) old
-  raised_writing w mid now is on m n =
-      n ∙ ap (max (cond (list_any (λ p. same_spot spot (spot_on a true p)) parts) level 0)) m
-      ∙ raised (list_any (λ p. same_spot spot (spot_on a true p)) parts) (list_any (λ p. same_spot spot (spot_on a false p)) parts) level old
-      ∙ ap (λ b. max (cond b level 0) old) (sym (both_ways a spot parts ∙ ap (λ t. (t && list_any (λ p. same_spot spot (spot_on a true p)) parts) || list_any (λ p. same_spot spot (spot_on a false p)) parts) (sym is ∙ on)))
 
 -- ---- levels that are taken
 
@@ -122,7 +81,7 @@ is_pos n h = lt-ltb 0 n (omega (arith, h))
 pub no_pos : (n : ℕ) → n ≡ 0 → nat_lt 0 n ≡ false
 no_pos n h = ap (nat_lt 0) h
 
-module _ (end : ℕ) (old new : List (Slot × ℕ)) (spot : Spot) (level to : ℕ) (leads : Leads end old)
+module _ (end : ℕ) (old new : List (Slot × Sides)) (spot : Spot) (level to : ℕ) (leads : Leads end old)
     (set : (s : Spot) → level_at new s ≡ cond (same_spot s (at_level spot level)) to (level_at old s))
     (over : level < to) (within : to ≤ end) (passes : (k : ℕ) → level < k → k < to → 1 ≤ level_at old (at_level spot k)) where
   -- what was taken stays taken
@@ -168,21 +127,21 @@ module _ (end : ℕ) (old new : List (Slot × ℕ)) (spot : Spot) (level to : �
             absurd (true≢false (sym (lt-ltb a b (omega (arith, not_low))) ∙ off))
       ] refl
 
-pub same_set : (old new : List (Slot × ℕ)) (s t : Spot) (to : ℕ) → level_at new s ≡ cond (same_spot s t) to (level_at old s) → 1 ≤ to → nat_lt 0 (level_at new s) ≡ (same_spot s t || nat_lt 0 (level_at old s))
+pub same_set : (old new : List (Slot × Sides)) (s t : Spot) (to : ℕ) → level_at new s ≡ cond (same_spot s t) to (level_at old s) → 1 ≤ to → nat_lt 0 (level_at new s) ≡ (same_spot s t || nat_lt 0 (level_at old s))
 same_set old new s t to h up = elim (same_spot s t) as (λ b. level_at new s ≡ cond b to (level_at old s) → nat_lt 0 (level_at new s) ≡ (b || nat_lt 0 (level_at old s))) [
   | true ↦ λ e. ap (nat_lt 0) e ∙ is_pos to up
   | false ↦ λ e. ap (nat_lt 0) e
 ] h
 
 -- what is taken already is not taken anew
-pub taken_already : (old : List (Slot × ℕ)) (s t : Spot) → 1 ≤ level_at old t → nat_lt 0 (level_at old s) ≡ (same_spot s t || nat_lt 0 (level_at old s))
+pub taken_already : (old : List (Slot × Sides)) (s t : Spot) → 1 ≤ level_at old t → nat_lt 0 (level_at old s) ≡ (same_spot s t || nat_lt 0 (level_at old s))
 taken_already old s t up = elim (same_spot s t) as (λ b. same_spot s t ≡ b → nat_lt 0 (level_at old s) ≡ (b || nat_lt 0 (level_at old s))) [
   | true ↦ λ is. ap (λ u. nat_lt 0 (level_at old u)) (one_spot _ _ is) ∙ is_pos (level_at old t) up
   | false ↦ λ _. refl
 ] refl
 
 -- a level that is taken, and leads as far as the one that it leads to
-module _ (end : ℕ) (old new : List (Slot × ℕ)) (spot : Spot) (level further beyond : ℕ) (leads : Leads end old)
+module _ (end : ℕ) (old new : List (Slot × Sides)) (spot : Spot) (level further beyond : ℕ) (leads : Leads end old)
     (is : further ≡ level_at old (at_level spot level)) (up : 1 ≤ further) (at : beyond ≡ level_at old (at_level spot further)) (on : 1 ≤ beyond)
     (set : (s : Spot) → level_at new s ≡ cond (same_spot s (at_level spot level)) beyond (level_at old s)) where
   pub shorter_leads : Leads end new
@@ -201,33 +160,57 @@ module _ (end : ℕ) (old new : List (Slot × ℕ)) (spot : Spot) (level further
   pub shorter_same : SameTaken old new
   shorter_same s = same_set old new s (at_level spot level) beyond (set s) on ∙ sym (taken_already old s (at_level spot level) (omega (arith, is, up)))
 
--- a level that is taken anew
-module _ (end : ℕ) (old new : List (Slot × ℕ)) (spot : Spot) (level : ℕ) (leads : Leads end old) (below : level < end)
-    (set : (s : Spot) → level_at new s ≡ cond (same_spot s (at_level spot level)) (level + 1) (level_at old s)) where
-  pub taken_leads : Leads end new
-  taken_leads = leads_set end old new spot level (level + 1) leads set (omega arith) (omega (arith, below)) (λ k low lt. absurd (omega (arith, low, lt)))
+-- a level that is taken by a touch, anew or as it was
+module _ (end : ℕ) (old new : List (Slot × Sides)) (a : Touch) (level : ℕ) (leads : Leads end old) (below : level < end)
+    (set : (s : Spot) → level_at new s ≡ max (cond (is_at (Level level ∷ []) a s) (level + 1) 0) (level_at old s)) where
+  -- what was taken stays taken
+  remains : (s : Spot) → 1 ≤ level_at old s → 1 ≤ level_at new s
+  remains s h = let e : level_at new s ≡ max (cond (is_at (Level level ∷ []) a s) (level + 1) 0) (level_at old s) = set s in omega (arith, e, h)
 
-  pub taken_now : (s : Spot) → nat_lt 0 (level_at new s) ≡ (same_spot s (at_level spot level) || nat_lt 0 (level_at old s))
-  taken_now s = same_set old new s (at_level spot level) (level + 1) (set s) (omega arith)
+  old_within : (s : Spot) (m : ℕ) → level_at old (at_level s m) ≤ end
+  old_within s m = elim (nat_lt 0 (level_at old (at_level s m))) as (λ b. nat_lt 0 (level_at old (at_level s m)) ≡ b → level_at old (at_level s m) ≤ end) [
+    | true ↦ λ up. (leads s m (pos (level_at old (at_level s m)) up)).1
+    | false ↦ λ off. let not_up : (0 < level_at old (at_level s m) → ⊥) = λ lt. true≢false (sym (lt-ltb 0 (level_at old (at_level s m)) lt) ∙ off) in omega (arith, not_up)
+  ] refl
 
-alone : (b : Bool) → (b || false) ≡ b
-alone true = refl
-alone false = refl
-
-module _ (a : Touch) (spot : Spot) (level : ℕ) (old : Bool) where
-  pub taken_reading : (w now : Bool) → w ≡ does_write a → w ≡ false → now ≡ (same_spot spot (spot_on a false (Level level)) || old) → now ≡ (is_at (Level level ∷ []) a spot || old)
-  taken_reading w now is off h = h ∙ ap (λ b. b || old) (sym (both_ways a spot (Level level ∷ []) ∙ ap (λ t. (t && (same_spot spot (spot_on a true (Level level)) || false)) || (same_spot spot (spot_on a false (Level level)) || false)) (sym is ∙ off) ∙ alone (same_spot spot (spot_on a false (Level level)))))
-
-  pub taken_writing : (w mid now : Bool) → w ≡ does_write a → w ≡ true → mid ≡ (same_spot spot (spot_on a false (Level level)) || old) → now ≡ (same_spot spot (spot_on a true (Level level)) || mid) → now ≡ (is_at (Level level ∷ []) a spot || old)
-  taken_writing w mid now is on m n =
-      n ∙ ap (λ b. same_spot spot (spot_on a true (Level level)) || b) m
-      ∙ join (same_spot spot (spot_on a true (Level level))) (same_spot spot (spot_on a false (Level level)))
-      ∙ ap (λ b. b || old) (sym (both_ways a spot (Level level ∷ []) ∙ ap (λ t. (t && (same_spot spot (spot_on a true (Level level)) || false)) || (same_spot spot (spot_on a false (Level level)) || false)) (sym is ∙ on)))
+  level_there : (s : Spot) (m : ℕ) → is_at (Level level ∷ []) a (at_level s m) ≡ true → m ≡ level
+  level_there s m is =
+      let here : (same_spot (at_level s m) (spot_on a s.written (Level level)) || false) ≡ true = second_so (not s.written || does_write a) (same_spot (at_level s m) (spot_on a s.written (Level level)) || false) is in
+      ap (λ (t : Spot). level_of_part t.part) (one_spot (at_level s m) (spot_on a s.written (Level level)) (sym (or_false (same_spot (at_level s m) (spot_on a s.written (Level level)))) ∙ here))
     where
-      join : (x y : Bool) → (x || (y || old)) ≡ (((x || false) || (y || false)) || old)
-      join true y = refl
-      join false true = refl
-      join false false = refl
+      level_of_part : Part → ℕ
+      level_of_part (Level n) = n
+      level_of_part _ = 0
+
+  pub taken_leads : Leads end new
+  taken_leads s m h = elim (is_at (Level level ∷ []) a (at_level s m)) as (λ b. is_at (Level level ∷ []) a (at_level s m) ≡ b → level_at new (at_level s m) ≡ max (cond b (level + 1) 0) (level_at old (at_level s m))
+      → (m < level_at new (at_level s m)) × (level_at new (at_level s m) ≤ end) × ((k : ℕ) → m ≤ k → k < level_at new (at_level s m) → 1 ≤ level_at new (at_level s k))) [
+        | true ↦ λ is e.
+            let one : m ≡ level = level_there s m is in
+            let within : level_at old (at_level s m) ≤ end = old_within s m in (
+              omega (arith, e, one),
+              omega (arith, e, within, below),
+              λ k low lt. elim (nat_lt m k) as (λ b. nat_lt m k ≡ b → 1 ≤ level_at new (at_level s k)) [
+                | true ↦ λ up. let over : m < k = ltb-true m k up in
+                    let was : 1 ≤ level_at old (at_level s m) = omega (arith, e, lt, over, one) in
+                    remains (at_level s k) ((leads s m was).2 k low (omega (arith, e, lt, over, one)))
+                | false ↦ λ up. let not_over : (m < k → ⊥) = λ lt'. true≢false (sym (lt-ltb m k lt') ∙ up) in
+                    let same : k ≡ m = omega (arith, not_over, low) in subst (λ n. 1 ≤ level_at new (at_level s n)) (sym same) h
+              ] refl,
+            )
+        | false ↦ λ _ e.
+            let was : 1 ≤ level_at old (at_level s m) = omega (arith, e, h) in
+            let l : (m < level_at old (at_level s m)) × (level_at old (at_level s m) ≤ end) × ((k : ℕ) → m ≤ k → k < level_at old (at_level s m) → 1 ≤ level_at old (at_level s k)) = leads s m was in
+            let first : m < level_at old (at_level s m) = l.0 in
+            let second : level_at old (at_level s m) ≤ end = l.1 in
+            (omega (arith, e, first), omega (arith, e, second), λ k low lt. remains (at_level s k) (l.2 k low (omega (arith, lt, e))))
+      ] refl (set (at_level s m))
+
+  pub taken_now : (s : Spot) → nat_lt 0 (level_at new s) ≡ (is_at (Level level ∷ []) a s || nat_lt 0 (level_at old s))
+  taken_now s = elim (is_at (Level level ∷ []) a s) as (λ b. level_at new s ≡ max (cond b (level + 1) 0) (level_at old s) → nat_lt 0 (level_at new s) ≡ (b || nat_lt 0 (level_at old s))) [
+    | true ↦ λ e. is_pos (level_at new s) (omega (arith, e))
+    | false ↦ λ e. let same : level_at new s ≡ level_at old s = omega (arith, e) in ap (nat_lt 0) same
+  ] (set s)
 
 pub taken_next : (f : Touch → Bool) (xs : List Touch) (i : ℕ) (d : Touch) (now mid old : Bool) → i < length xs → now ≡ (f (get_or xs i d) || mid) → mid ≡ (list_any f (take i xs) || old) → now ≡ (list_any f (take (i + 1) xs) || old)
 taken_next f xs i d now mid old lt n m = n ∙ ap (λ b. f (get_or xs i d) || b) m ∙ join (f (get_or xs i d)) (list_any f (take i xs)) old ∙ ap (λ b. b || old) (sym (any_take f xs i d lt))
@@ -238,7 +221,7 @@ taken_next f xs i d now mid old lt n m = n ∙ ap (λ b. f (get_or xs i d) || b)
 
 -- ---- a search past levels that are taken
 
-module _ (end : ℕ) (next : List (Slot × ℕ)) (spot : Spot) (free further : ℕ) (leads : Leads end next) (is : further ≡ level_at next (at_level spot free)) (up : 0 < further) where
+module _ (end : ℕ) (next : List (Slot × Sides)) (spot : Spot) (free further : ℕ) (leads : Leads end next) (is : further ≡ level_at next (at_level spot free)) (up : 0 < further) where
   led : (free < level_at next (at_level spot free)) × (level_at next (at_level spot free) ≤ end) × ((k : ℕ) → free ≤ k → k < level_at next (at_level spot free) → 1 ≤ level_at next (at_level spot k))
   led = leads spot free (omega (arith, is, up))
 
@@ -251,7 +234,7 @@ module _ (end : ℕ) (next : List (Slot × ℕ)) (spot : Spot) (free further : �
   pub led_smaller : end - further < end - free
   led_smaller = omega (arith, led_over, led_within)
 
-  pub led_first : (old : List (Slot × ℕ)) (level : ℕ) → SameTaken old next → ((k : ℕ) → level ≤ k → k < free → nat_lt 0 (level_at old (at_level spot k)) ≡ true)
+  pub led_first : (old : List (Slot × Sides)) (level : ℕ) → SameTaken old next → ((k : ℕ) → level ≤ k → k < free → nat_lt 0 (level_at old (at_level spot k)) ≡ true)
       → (k : ℕ) → level ≤ k → k < further → nat_lt 0 (level_at old (at_level spot k)) ≡ true
   led_first old level same before k low lt = elim (nat_lt k free) as (λ t. nat_lt k free ≡ t → nat_lt 0 (level_at old (at_level spot k)) ≡ true) [
     | true ↦ λ less. before k low (ltb-true k free less)
@@ -268,7 +251,7 @@ any_at f (x ∷ xs) (suc i) d lt h = ap (λ b. f x || b) (any_at f xs i d (omega
     or_true true = refl
     or_true false = refl
 
-module _ (end : ℕ) (old next : List (Slot × ℕ)) (touches : List Touch) (i : ℕ) (a : Touch) (w : Bool) (level free found : ℕ) (same : SameTaken old next)
+module _ (end : ℕ) (old next : List (Slot × Sides)) (touches : List Touch) (i : ℕ) (a : Touch) (w : Bool) (level free found : ℕ) (same : SameTaken old next)
     (lt : i < length touches) (is : a ≡ get_or touches i a) (way : w ≡ does_write a) (next_free : IsNextFree end next (spot_on a (not w) (Level free)) free found)
     (from : level ≤ free) (within : free ≤ max level end) where
   found_here : IsNextFree end next (asked_on a (Level free)) free found
@@ -297,11 +280,11 @@ module _ (end : ℕ) (old next : List (Slot × ℕ)) (touches : List Touch) (i :
       (ap (λ b. nat_lt 0 (level_at old (asked_on b (Level level)))) (sym is) ∙ sym (same (asked_on a (Level level))) ∙ ap (λ n. nat_lt 0 (level_at next (asked_on a (Level n)))) (sym e) ∙ found_here.free)
       (before none)
 
-avoided_same : (old next : List (Slot × ℕ)) (touches : List Touch) (k : ℕ) → SameTaken old next → is_avoided next touches k ≡ is_avoided old touches k
+avoided_same : (old next : List (Slot × Sides)) (touches : List Touch) (k : ℕ) → SameTaken old next → is_avoided next touches k ≡ is_avoided old touches k
 avoided_same old next [] k same = refl
 avoided_same old next (b ∷ touches) k same = ap₂ (λ p q. p || q) (same (asked_on b (Level k))) (avoided_same old next touches k same)
 
-pub same_past : (end : ℕ) (old next : List (Slot × ℕ)) (touches : List Touch) (level found : ℕ) → SameTaken old next → IsPast end next touches level found → IsPast end old touches level found
+pub same_past : (end : ℕ) (old next : List (Slot × Sides)) (touches : List Touch) (level found : ℕ) → SameTaken old next → IsPast end next touches level found → IsPast end old touches level found
 same_past end old next touches level found same past = record {
   from = past.from;
   within = past.within;
@@ -309,7 +292,7 @@ same_past end old next touches level found same past = record {
   same = λ e. sym (avoided_same old next touches level same) ∙ past.same e;
 }
 
-pub one_by_one : (end : ℕ) (old : List (Slot × ℕ)) (touches : List Touch) (low level free : ℕ) → IsPast end old touches level free → ((k : ℕ) → low ≤ k → k < level → is_avoided old touches k ≡ true)
+pub one_by_one : (end : ℕ) (old : List (Slot × Sides)) (touches : List Touch) (low level free : ℕ) → IsPast end old touches level free → ((k : ℕ) → low ≤ k → k < level → is_avoided old touches k ≡ true)
     → (k : ℕ) → low ≤ k → k < free → is_avoided old touches k ≡ true
 one_by_one end old touches low level free past before k least lt = elim (nat_lt k level) as (λ t. nat_lt k level ≡ t → is_avoided old touches k ≡ true) [
   | true ↦ λ less. before k least (ltb-true k level less)

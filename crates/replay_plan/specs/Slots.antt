@@ -12,6 +12,7 @@ use Rattle.replay_plan.specs.Placing.{Placed, highest}
 use Rattle.replay_plan.specs.declared.slots.Part.{Part}
 use Rattle.replay_plan.specs.declared.slots.Part.TheVariants.{Anywhere, Everywhere, Anything, Whole, Tails, TailOf, KeysOf, At, Level}
 use Rattle.replay_plan.specs.declared.slots.Slot.{Slot}
+use Rattle.replay_plan.specs.declared.slots.Sides.{Sides}
 
 -- a part of a place, and whether only those that write it count
 pub record Spot : Type 0 where
@@ -20,8 +21,9 @@ pub record Spot : Type 0 where
   pub written : Bool
   pub part : Part
 
-abbrev pub spot_of : Slot → Spot
-spot_of s = record { user = record { 0 = s.user }; mailbox = option_map (λ name. name.0.now) s.mailbox; written = s.written; part = s.part }
+-- the spot of a slot, of all or of those that write
+abbrev pub spot_of : Slot → Bool → Spot
+spot_of s written = record { user = record { 0 = s.user }; mailbox = option_map (λ name. name.0.now) s.mailbox; written = written; part = s.part }
 
 -- whether it is a part of all places of a user
 abbrev pub is_users : Part → Bool
@@ -55,9 +57,17 @@ same_way false b = not b
 abbrev pub same_spot : Spot → Spot → Bool
 same_spot a b = same_user a.user b.user && (same_mailbox a.mailbox b.mailbox && (same_way a.written b.written && same_part a.part b.part))
 
+-- whether a slot is a spot's
+abbrev pub is_of : Spot → Slot → Bool
+is_of spot s = same_spot spot (spot_of s spot.written)
+
+abbrev pub side : Bool → Sides → ℕ
+side true s = s.of_writers
+side false s = s.of_all
+
 -- the level at a spot
-abbrev pub level_at : List (Slot × ℕ) → Spot → ℕ
-level_at levels spot = unwrap_or (lookup (λ s. same_spot spot (spot_of s)) levels) 0
+abbrev pub level_at : List (Slot × Sides) → Spot → ℕ
+level_at levels spot = unwrap_or (option_map (side spot.written) (lookup (is_of spot) levels)) 0
 
 -- ---- what a touch marks, and what it asks for
 
@@ -115,10 +125,10 @@ taken_at earlier spot = list_any (λ e. list_any (λ a. is_at (Level e.1 ∷ [])
 
 -- ---- what two tables know of the earlier items
 
-abbrev pub TellsLevels : List Placed → List (Slot × ℕ) → Type 0
+abbrev pub TellsLevels : List Placed → List (Slot × Sides) → Type 0
 TellsLevels earlier last = (spot : Spot) → level_at last spot ≡ last_at earlier spot
 
-abbrev pub Knows : List Placed → List (Slot × ℕ) → Type 0
+abbrev pub Knows : List Placed → List (Slot × Sides) → Type 0
 Knows earlier next = (spot : Spot) → nat_lt 0 (level_at next spot) ≡ taken_at earlier spot
 
 -- a spot at another level
@@ -126,39 +136,39 @@ abbrev pub at_level : Spot → ℕ → Spot
 at_level spot level = record spot { part = Level level }
 
 -- a level that is taken leads to a higher one, past levels that are taken; none is past the end
-abbrev pub Leads : ℕ → List (Slot × ℕ) → Type 0
+abbrev pub Leads : ℕ → List (Slot × Sides) → Type 0
 Leads end next = (spot : Spot) (level : ℕ) → 1 ≤ level_at next (at_level spot level)
     → (level < level_at next (at_level spot level)) × (level_at next (at_level spot level) ≤ end)
     × ((between : ℕ) → level ≤ between → between < level_at next (at_level spot level) → 1 ≤ level_at next (at_level spot between))
 
 -- the same levels are taken
-abbrev pub SameTaken : List (Slot × ℕ) → List (Slot × ℕ) → Type 0
+abbrev pub SameTaken : List (Slot × Sides) → List (Slot × Sides) → Type 0
 SameTaken old new = (spot : Spot) → nat_lt 0 (level_at new spot) ≡ nat_lt 0 (level_at old spot)
 
 -- the last level behind which an item must come
-abbrev pub bound : List (Slot × ℕ) → List Touch → ℕ
+abbrev pub bound : List (Slot × Sides) → List Touch → ℕ
 bound last touches = highest (map (λ b. highest (map (λ part. level_at last (asked_on b part)) (asked_by b))) touches)
 
 -- whether a level is taken for an item
-abbrev pub is_avoided : List (Slot × ℕ) → List Touch → ℕ → Bool
+abbrev pub is_avoided : List (Slot × Sides) → List Touch → ℕ → Bool
 is_avoided next touches level = list_any (λ b. nat_lt 0 (level_at next (asked_on b (Level level)))) touches
 
 -- the first level from one on that is not taken at a spot
-pub record IsNextFree (end : ℕ) (next : List (Slot × ℕ)) (spot : Spot) (level found : ℕ) : Type 0 where
+pub record IsNextFree (end : ℕ) (next : List (Slot × Sides)) (spot : Spot) (level found : ℕ) : Type 0 where
   pub from : level ≤ found
   pub within : found ≤ max level end
   pub free : nat_lt 0 (level_at next (at_level spot found)) ≡ false
   pub first : (lower : ℕ) → level ≤ lower → lower < found → nat_lt 0 (level_at next (at_level spot lower)) ≡ true
 
 -- a level from one on, past levels that are taken for an item; it is the same level only where that one is not taken
-pub record IsPast (end : ℕ) (next : List (Slot × ℕ)) (touches : List Touch) (level found : ℕ) : Type 0 where
+pub record IsPast (end : ℕ) (next : List (Slot × Sides)) (touches : List Touch) (level found : ℕ) : Type 0 where
   pub from : level ≤ found
   pub within : found ≤ max level end
   pub passed : (lower : ℕ) → level ≤ lower → lower < found → is_avoided next touches lower ≡ true
   pub same : found ≡ level → is_avoided next touches level ≡ false
 
 -- the first level from one on that is not taken for an item
-pub record IsUntaken (next : List (Slot × ℕ)) (touches : List Touch) (level found : ℕ) : Type 0 where
+pub record IsUntaken (next : List (Slot × Sides)) (touches : List Touch) (level found : ℕ) : Type 0 where
   pub from : level ≤ found
   pub free : is_avoided next touches found ≡ false
   pub first : (lower : ℕ) → level ≤ lower → lower < found → is_avoided next touches lower ≡ true

@@ -1,39 +1,27 @@
 //! The last levels of the parts of places.
-ghost use Rattle.std.specs.Prelude.{◌≡◌, ◌<◌, ◌&&◌, max, map, not, IfOk, OnOk, if◌then◌else◌};
+ghost use Rattle.std.specs.Prelude.{◌≡◌, ◌<◌, [], ◌∷◌, max, map, IfOk, OnOk, if◌then◌else◌};
 ghost use Rattle.std.specs.List.{list_any};
-ghost use Rattle.touch_rules.specs.Commuting.{does_write};
 ghost use Rattle.replay_plan.specs.Placing.{highest};
-ghost use Rattle.replay_plan.specs.Slots.{spot_of, spot_on, same_spot, level_at, parts_of, asked_by, asked_on, is_at, bound};
+ghost use Rattle.replay_plan.specs.Slots.{level_at, parts_of, asked_by, asked_on, is_at, bound};
 
 use crate::parts::{asked, parts, slot_on};
-use crate::slots::{Part, Slot, Table};
+use crate::slots::{Part, Table, higher};
 use std::alloc::Global;
 use touch_rules::Touch;
 use undo_base::NoMemory;
-
-/// With a level at a slot, unless a higher one is there.
-fn raise<'a>(last: &mut Table<'a>, slot: Slot<'a>, level: u32) -> Result<(), NoMemory>
-    ensures { OnOk result ((spot : _) → level_at last.new spot ≡ max (if same_spot spot (spot_of slot.entry) then level else 0) (level_at last.old spot)) }
-{
-    if last.get(&slot) < level {
-        last.set(slot, level)?;
-    }
-    Ok(())
-}
 
 /// With the level of a touch at these parts of its place.
 fn raise_parts<'a>(
     last: &mut Table<'a>,
     touch: &'a Touch,
-    written: bool,
     parts: &[Part],
     level: u32,
 ) -> Result<(), NoMemory>
-    ensures { OnOk result ((spot : _) → level_at last.new spot ≡ max (if list_any (λ part. same_spot spot (spot_on touch.now written part)) parts.now then level else 0) (level_at last.old spot)) }
+    ensures { OnOk result ((spot : _) → level_at last.new spot ≡ max (if list_any (λ part. is_at (part ∷ []) touch.now spot) parts.now then level else 0) (level_at last.old spot)) }
 {
     for part in parts {
-        let slot = slot_on(touch, written, *part);
-        raise(last, slot, level)?;
+        let slot = slot_on(touch, *part);
+        last.raise(slot, touch.writes(), level)?;
     }
     Ok(())
 }
@@ -48,10 +36,7 @@ fn raise_touch<'a>(
     ensures { OnOk result ((spot : _) → level_at last.new spot ≡ max (if is_at (parts_of touch.now) touch.now spot then level else 0) (level_at last.old spot)) }
 {
     let parts = parts(alloc, touch)?;
-    raise_parts(last, touch, false, parts.as_slice(), level)?;
-    if touch.writes() {
-        raise_parts(last, touch, true, parts.as_slice(), level)?;
-    }
+    raise_parts(last, touch, parts.as_slice(), level)?;
     Ok(())
 }
 
@@ -70,20 +55,14 @@ pub(crate) fn raise_item<'a>(
     Ok(())
 }
 
-fn higher(a: u32, b: u32) -> u32
-    ensures { result ≡ max a b }
-{
-    if a < b { b } else { a }
-}
-
 /// The highest level at these parts of a touch's place.
 fn highest_at<'a>(last: &Table<'a>, touch: &'a Touch, parts: &[Part]) -> u32
     ensures { result ≡ highest (map (λ part. level_at last.now (asked_on touch.now part)) parts.now) }
 {
     let mut high = 0;
     for part in parts {
-        let slot = slot_on(touch, !touch.writes(), *part);
-        high = higher(high, last.get(&slot));
+        let slot = slot_on(touch, *part);
+        high = higher(high, last.get(&slot, !touch.writes()));
     }
     high
 }

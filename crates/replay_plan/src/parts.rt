@@ -131,13 +131,12 @@ fn mailbox(touch: &Touch, part: Part) -> Option<Spelled<'_>>
 }
 
 /// A slot at the place of a touch, or at its user.
-pub(crate) fn slot_on(touch: &Touch, written: bool, part: Part) -> Slot<'_>
-    ensures { spot_of result ≡ spot_on touch.now written part }
+pub(crate) fn slot_on(touch: &Touch, part: Part) -> Slot<'_>
+    ensures { (written : _) → spot_of result written ≡ spot_on touch.now written part }
 {
     Slot {
         mailbox: mailbox(touch, part),
         part,
-        written,
         user: touch.user().0,
     }
 }

@@ -2,7 +2,7 @@
 //!
 //! A level is noted as taken at the place of a touch, and not at its user too. Two items that meet only by an Every do not
 //! commute, so the later one has a higher level by the last levels alone. So a RENAME costs no more than a touch of one mailbox,
-//! whatever its user has. Any other touch costs one look more than without and one note (two where it writes).
+//! whatever its user has. Any other touch costs one look more than without and one note.
 //!
 //! A level that is taken leads to a later one past levels that are taken too. What a search passes is made to lead further, so
 //! that it is not passed again and again. Where an item touches several places, each place's levels are passed in turn until all
@@ -10,7 +10,7 @@
 ghost use Rattle.std.specs.Prelude.{◌≡◌, ◌≤◌, ◌<◌, ◌||◌, max, nat_lt, IfOk, OnOk, [], ◌∷◌};
 ghost use Rattle.std.specs.List.{list_any};
 ghost use Rattle.replay_plan.specs.declared.slots.Part.TheVariants.{Level};
-ghost use Rattle.replay_plan.specs.Slots.{spot_on, same_spot, level_at, is_at, Leads, SameTaken, IsNextFree, IsPast, IsUntaken};
+ghost use Rattle.replay_plan.specs.Slots.{spot_on, level_at, is_at, Leads, SameTaken, IsNextFree, IsPast, IsUntaken};
 
 use crate::parts::slot_on;
 use crate::slots::{Part, Table};
@@ -21,8 +21,8 @@ use undo_base::NoMemory;
 fn look<'a>(next: &Table<'a>, touch: &'a Touch, written: bool, level: u32) -> u32
     ensures { result ≡ level_at next.now (spot_on touch.now written (Level level)) }
 {
-    let slot = slot_on(touch, written, Part::Level(level));
-    next.get(&slot)
+    let slot = slot_on(touch, Part::Level(level));
+    next.get(&slot, written)
 }
 
 /// With a level that is taken leading as far as the one that it leads to.
@@ -42,8 +42,8 @@ fn shorten<'a>(
 {
     let beyond = look(next, touch, written, further);
     if beyond > 0 {
-        let slot = slot_on(touch, written, Part::Level(level));
-        next.set(slot, beyond)?;
+        let slot = slot_on(touch, Part::Level(level));
+        next.set(slot, written, beyond)?;
     }
     Ok(())
 }
@@ -111,28 +111,7 @@ pub(crate) fn free_level<'a>(
     Ok(level)
 }
 
-/// With a level that is taken at a touch's place.
-fn take<'a>(
-    next: &mut Table<'a>,
-    touch: &'a Touch,
-    written: bool,
-    level: u32,
-    end: u32,
-) -> Result<(), NoMemory>
-    requires leads { Leads end next.old }
-    requires below { level < end }
-    ensures taken { OnOk result ((spot : _) → nat_lt 0 (level_at next.new spot) ≡ (same_spot spot (spot_on touch.now written (Level level)) || nat_lt 0 (level_at next.old spot))) }
-    ensures leads { OnOk result (Leads end next.new) }
-{
-    let further = look(next, touch, written, level);
-    if further == 0 {
-        let slot = slot_on(touch, written, Part::Level(level));
-        next.set(slot, level + 1)?;
-    }
-    Ok(())
-}
-
-/// With a level that is taken by a touch.
+/// With a level that is taken by a touch. One that is taken already leads as far as before.
 fn take_touch<'a>(
     next: &mut Table<'a>,
     touch: &'a Touch,
@@ -144,10 +123,8 @@ fn take_touch<'a>(
     ensures taken { OnOk result ((spot : _) → nat_lt 0 (level_at next.new spot) ≡ (is_at (Level level ∷ []) touch.now spot || nat_lt 0 (level_at next.old spot))) }
     ensures leads { OnOk result (Leads end next.new) }
 {
-    take(next, touch, false, level, end)?;
-    if touch.writes() {
-        take(next, touch, true, level, end)?;
-    }
+    let slot = slot_on(touch, Part::Level(level));
+    next.raise(slot, touch.writes(), level + 1)?;
     Ok(())
 }
 

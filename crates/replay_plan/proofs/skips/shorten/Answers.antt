@@ -8,10 +8,10 @@ pub returns-in_ok-set-clause-same : goal.returns-in_ok-set-clause-same
 returns-in_ok-set-clause-same c =
     shorter_same c.args.end c.args.next.now c.set.new.self (spot_on c.args.touch.now c.args.written (Level 0)) c.args.level c.args.further c.look-beyond.result
     c.requires.leads c.requires.further c.requires.taken c.look-beyond.ensures (omega (arith, c.if-beyond-gt0.true))
-    (λ s. c.in_ok-set.ensures s ∙ ap (λ t. cond (same_spot s t) c.look-beyond.result (level_at c.args.next.now s)) c.slot_on-slot.ensures)
+    (λ s. c.in_ok-set.ensures s ∙ ap (λ t. cond (same_spot s t) c.look-beyond.result (level_at c.args.next.now s)) (c.slot_on-slot.ensures c.args.written))
 
 pub returns-in_ok-set-clause-leads : goal.returns-in_ok-set-clause-leads
 returns-in_ok-set-clause-leads c =
     shorter_leads c.args.end c.args.next.now c.set.new.self (spot_on c.args.touch.now c.args.written (Level 0)) c.args.level c.args.further c.look-beyond.result
     c.requires.leads c.requires.further c.requires.taken c.look-beyond.ensures (omega (arith, c.if-beyond-gt0.true))
-    (λ s. c.in_ok-set.ensures s ∙ ap (λ t. cond (same_spot s t) c.look-beyond.result (level_at c.args.next.now s)) c.slot_on-slot.ensures)
+    (λ s. c.in_ok-set.ensures s ∙ ap (λ t. cond (same_spot s t) c.look-beyond.result (level_at c.args.next.now s)) (c.slot_on-slot.ensures c.args.written))

@@ -1,9 +1,5 @@
-use Rattle.std.proofs.Common.{◌≡◌, cond, subst}
-use Rattle.replay_plan.specs.Slots.{spot_of, same_spot, level_at}
-use Rattle.replay_plan.proofs.Tables.{level_set}
+use Rattle.replay_plan.proofs.Tables.{side_set}
 use Rattle.replay_plan.proofs.slots.Table.set.Goals as goal
 
 pub returns : goal.returns
-returns c = λ spot.
-    subst (λ old. level_at c.insert.new.self.entries spot ≡ cond (same_spot spot (spot_of c.args.slot)) c.args.level (level_at old spot)) c.self.view_is
-    (level_set spot c.args.slot c.args.level c.self.inside.levels.entries c.insert.new.self.entries c.in_ok-insert.ensures.updates.1 c.in_ok-insert.ensures.updates.3)
+returns c = λ spot. side_set spot c.args.slot c.sides_at-sides.result c.with_one.result c.args.self.now _ c.sides_at-sides.ensures (c.in_ok-put.ensures spot) c.args.written c.args.level c.with_one.ensures.all c.with_one.ensures.writers
