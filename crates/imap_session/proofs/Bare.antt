@@ -75,10 +75,6 @@ one_more f found next whole place count h before more =
     ∙ append_assoc found (f place) (flat_map f (range_with_len (place + 1) (count - (place + 1))))
     ∙ ap (λ n. found ++ flat_map f (range_with_len place n)) (sym left) ∙ before
 
--- what is kept of the message at a place
-pub told_kept : (q : Searching) (found : List Message) (row row' : Option Message) → row ≡ row' → found ++ option_map_or (λ (m : Message). kept q [] 0 m) row [] ≡ found ++ option_map_or (λ (m : Message). kept q [] 0 m) row' []
-told_kept q found row row' is = ap (λ (o : Option Message). found ++ option_map_or (λ (m : Message). kept q [] 0 m) o []) is
-
 -- ---- what is told of the messages that were found
 
 -- a search, with no list of messages

@@ -2,7 +2,6 @@
 ghost use Rattle.std.specs.Prelude.{◌≡◌, ◌+◌, ◌<◌, ◌++◌, ◌∷◌, [], Ok, min, length, map, flat_map, get_or, true, IfOk, OnErr, OnOk, IfSome};
 ghost use Rattle.std.specs.Fmt.{decimal};
 ghost use Rattle.std.specs.List.{range_with_len};
-ghost use Rattle.std.specs.Option.{option_map_or};
 ghost use Rattle.shelf.specs.Notes.{size_of};
 ghost use Rattle.verb_core.specs.Store.{IsValid};
 ghost use Rattle.imap_view.specs.Views.{is_by_uid};
@@ -20,7 +19,7 @@ use crate::words::{Answer, search_word};
 use box_store::Store;
 use imap_fetch::{Message, Messages};
 use imap_tokens::is_same_word;
-use imap_view::{Known, View, bare_message_at, mail_of, message_at, rows_at};
+use imap_view::{Known, View, entry_at, length_of, mail_of, rows_at};
 use itoa::Buffer;
 use search_verb::{Candidate, Look, Search};
 use shelf::Shelf;
@@ -319,18 +318,63 @@ fn found_with(
     found_as(alloc, tag, searching, &rows)
 }
 
-/// Adds a message, where there is one and it matches what is told without its text.
+/// Whether a message matches what is told without its text. It takes no memory.
+fn meets_told(searching: &Searching, number: u32, entry: &Entry, size: u32) -> bool
+    ensures { result ≡ search_spec.finds searching.now [] 0 (record { place = number; entry = entry.now; size = size }) }
+{
+    let flags = entry.flags;
+    let what = Candidate {
+        place: number,
+        uid: entry.uid,
+        last_place: searching.last_place,
+        last_uid: searching.last_uid,
+        answered: flags.answered,
+        flagged: flags.flagged,
+        deleted: flags.deleted,
+        seen: flags.seen,
+        draft: flags.draft,
+        at: entry.at,
+        size,
+        text: b"",
+    };
+    searching.key.matches(&what)
+}
+
+/// Adds a message, where it matches what is told without its text.
 fn keep_told(
-    alloc: Global,
     found: &mut Messages,
     searching: &Searching,
-    row: Option<Message>,
+    number: u32,
+    entry: &Entry,
+    size: u32,
 ) -> Result<(), NoMemory>
-    ensures { OnOk result (found.new ≡ found.old ++ option_map_or (λ m. search_spec.kept searching.now [] 0 m) row []) }
+    ensures { OnOk result (found.new ≡ found.old ++ search_spec.kept searching.now [] 0 (record { place = number; entry = entry.now; size = size })) }
 {
-    match row {
+    if meets_told(searching, number, entry, size) {
+        found.push(Message {
+            place: number,
+            entry: *entry,
+            size,
+        })?;
+    }
+    Ok(())
+}
+
+/// Adds the message at a place of a view, where it matches what is told without its size and its text.
+fn keep_bare(
+    found: &mut Messages,
+    searching: &Searching,
+    entries: &[Entry],
+    view: &[Known],
+    place: u32,
+) -> Result<(), NoMemory>
+    requires order { is_by_uid entries.now ≡ true }
+    requires few { place < 4294967295 }
+    ensures { OnOk result (found.new ≡ found.old ++ search_spec.bare_kept untold searching.now entries.now view.now place) }
+{
+    match entry_at(entries, view, place) {
         None => Ok(()),
-        Some(row) => keep(alloc, found, searching, &[], 0, &row),
+        Some(entry) => keep_told(found, searching, place + 1, entry, 0),
     }
 }
 
@@ -347,13 +391,35 @@ fn matching_bare(
 {
     let mut found = Messages::new(alloc);
     for place in 0..view.len() as u32 {
-        let row = bare_message_at(entries, view, place);
-        keep_told(alloc, &mut found, searching, row)?;
+        keep_bare(&mut found, searching, entries, view, place)?;
     }
     Ok(found)
 }
 
-/// The same with the size of each, in one pass of the view and of what is noted of texts.
+/// The same with its size, which is looked for behind that of the message before.
+fn keep_sized(
+    found: &mut Messages,
+    searching: &Searching,
+    sizes: &Shelf,
+    entries: &[Entry],
+    view: &[Known],
+    place: u32,
+    near: &mut usize,
+) -> Result<(), NoMemory>
+    requires order { is_by_uid entries.now ≡ true }
+    requires few { place < 4294967295 }
+    ensures { OnOk result (found.new ≡ found.old ++ search_spec.bare_kept (size_of sizes.now.notes) searching.now entries.now view.now place) }
+{
+    match entry_at(entries, view, place) {
+        None => Ok(()),
+        Some(entry) => {
+            let size = length_of(sizes, entry.body, near);
+            keep_told(found, searching, place + 1, entry, size)
+        }
+    }
+}
+
+/// The messages of a view that match with the size of each, in one pass of the view and of what is noted of texts.
 fn matching_sized(
     alloc: Global,
     searching: &Searching,
@@ -368,8 +434,9 @@ fn matching_sized(
     let mut found = Messages::new(alloc);
     let mut near = 0;
     for place in 0..view.len() as u32 {
-        let row = message_at(sizes, entries, view, place, &mut near);
-        keep_told(alloc, &mut found, searching, row)?;
+        keep_sized(
+            &mut found, searching, sizes, entries, view, place, &mut near,
+        )?;
     }
     Ok(found)
 }

@@ -15,5 +15,5 @@ mod picks;
 
 pub use facts::{is_there, mail_of, select_facts, status_facts};
 pub use messages::{Known, View, is_current, news, view_of};
-pub use named::{bare_message_at, keys_at, message_at, places_named, rows_at};
+pub use named::{entry_at, keys_at, length_of, places_named, rows_at};
 pub use names::{account_of, made_mailbox_of, mailbox_of};

@@ -1,7 +1,7 @@
 //! The messages that a command names.
 //!
 //! A body whose length is not known counts as empty, which never comes about.
-ghost use Rattle.std.specs.Prelude.{◌≡◌, ℕ, ◌<◌, ◌++◌, [], List, Err, true, false, length, option_map, unwrap_or, IfOk, OnOk};
+ghost use Rattle.std.specs.Prelude.{◌≡◌, ℕ, ◌<◌, ◌++◌, [], List, Err, true, false, length, option_and_then, option_copied, option_map, slice_get, unwrap_or, IfOk, OnOk};
 ghost use Rattle.std.specs.List.{cons_option};
 ghost use Rattle.shelf.specs.Notes.{size_of};
 ghost use Rattle.imap_stream.specs.declared.picks.SetRange.{SetRange as TheRange};
@@ -85,7 +85,7 @@ pub fn keys_at(alloc: Global, view: &View, places: &Places) -> Result<Keys, NoMe
 }
 
 /// How long a text is: 0 where it is not known. `near` is where its note is looked for first; what is left there serves the next.
-fn length_of(sizes: &Shelf, body: Body, near: &mut usize) -> u32
+pub fn length_of(sizes: &Shelf, body: Body, near: &mut usize) -> u32
     ensures { result ≡ unwrap_or (size_of sizes.now.notes body) 0 }
 {
     match sizes.size_near(body, near) {
@@ -118,7 +118,7 @@ fn message_of(
 
 /// The message at a place, with its number from 1, as it lies now. Asked of places in their order, with one `near` that is 0 at
 /// first, it finds most sizes with no search.
-pub fn message_at(
+fn message_at(
     sizes: &Shelf,
     entries: &[Entry],
     view: &[Known],
@@ -135,30 +135,14 @@ pub fn message_at(
     }
 }
 
-/// A message with its place and its number, as it lies now, with no size.
-fn bare_message_of(entries: &[Entry], place: usize, number: u32, known: Known) -> Option<Message>
+/// The entry of the message at a place of a view, as it lies now. It is looked for at that place of the mailbox first.
+pub fn entry_at<'a>(entries: &'a [Entry], view: &[Known], place: u32) -> Option<&'a Entry>
     requires { is_by_uid entries.now ≡ true }
-    ensures { result ≡ option_map (λ e. record { place = number; entry = e; size = 0 }) (entry_of entries.now known) }
-{
-    match find_near(entries, place, known) {
-        None => None,
-        Some(entry) => Some(Message {
-            place: number,
-            entry: *entry,
-            size: 0,
-        }),
-    }
-}
-
-/// The message at a place, with its number from 1, as it lies now, and 0 for its size, which is not looked up.
-pub fn bare_message_at(entries: &[Entry], view: &[Known], place: u32) -> Option<Message>
-    requires order { is_by_uid entries.now ≡ true }
-    requires few { length view.now < 4294967295 }
-    ensures { result ≡ spec.message_at spec.untold entries.now view.now place }
+    ensures { option_copied result ≡ option_and_then (entry_of entries.now) (slice_get view.now place) }
 {
     match view.get(place as usize) {
         None => None,
-        Some(known) => bare_message_of(entries, place as usize, place + 1, *known),
+        Some(known) => find_near(entries, place as usize, *known),
     }
 }
 
