@@ -3,6 +3,7 @@ use Rattle.std.proofs.Common.{◌≡◌, ℕ, suc, ◌+◌, ◌-◌, ◌<◌, Bo
 use Rattle.std.specs.Prelude.{nat_lt, slice_get, option_and_then, option_map, flat_map, unwrap_or}
 use Rattle.std.specs.List.{cons_option, range_with_len}
 use Rattle.std.specs.Option.{option_map_or}
+use Rattle.std.proofs.lemmas.List.{map-append}
 use Rattle.imap_fetch.specs.declared.messages.Message.{Message}
 use Rattle.imap_session.specs.Searching.{all_places, ask_for, bare_found, bare_kept, facts_of, found, found_from, is_known_charset, is_of_more, is_of_texts, keys_of, kept, number_of, numbers_of, octets_of, search_ask, search_bodies, told, total_size}
 use Rattle.imap_session.specs.Dialog.{asks, begin_search, says, search, search_bare, search_in, searching}
@@ -66,14 +67,17 @@ sizes_apart (And first rest) what size h =
 
 -- ---- one pass of the places
 
--- one place more
-pub one_more : (f : ℕ → List Message) (found next whole : List Message) (place count : ℕ) → place < count → found ++ flat_map f (range_with_len place (count - place)) ≡ whole → next ≡ found ++ f place
-    → next ++ flat_map f (range_with_len (place + 1) (count - (place + 1))) ≡ whole
-one_more f found next whole place count h before more =
+-- one place more, of what is told of each message
+pub one_more : {X : Type 0} (g : Message → X) (f : ℕ → List Message) (told next : List X) (whole : List Message) (place count : ℕ) → place < count
+    → told ++ map g (flat_map f (range_with_len place (count - place))) ≡ map g whole → next ≡ told ++ map g (f place)
+    → next ++ map g (flat_map f (range_with_len (place + 1) (count - (place + 1)))) ≡ map g whole
+one_more g f told next whole place count h before more =
     let left : count - place ≡ suc (count - (place + 1)) = omega (arith, h) in
-    ap (λ l. l ++ flat_map f (range_with_len (place + 1) (count - (place + 1)))) more
-    ∙ append_assoc found (f place) (flat_map f (range_with_len (place + 1) (count - (place + 1))))
-    ∙ ap (λ n. found ++ flat_map f (range_with_len place n)) (sym left) ∙ before
+    let rest : List Message = flat_map f (range_with_len (place + 1) (count - (place + 1))) in
+    ap (λ l. l ++ map g rest) more
+    ∙ append_assoc told (map g (f place)) (map g rest)
+    ∙ ap (λ l. told ++ l) (sym (map-append g (f place) rest))
+    ∙ ap (λ n. told ++ map g (flat_map f (range_with_len place n))) (sym left) ∙ before
 
 -- ---- what is told of the messages that were found
 

@@ -1,5 +1,5 @@
 -- What a SEARCH finds in a view, and what it asks of the store (RFC 3501, 6.4.4).
-use Rattle.std.specs.Prelude.{ℕ, ◌+◌, ◌-◌, ◌==◌, ◌||◌, Bool, true, false, not, codes, nat_lt, List, [], ◌∷◌, ◌++◌, map, flat_map, length, get_or, slice_get, min, Option, None, Some, if◌then◌else◌}
+use Rattle.std.specs.Prelude.{ℕ, ◌+◌, ◌-◌, ◌||◌, Bool, true, false, not, codes, nat_lt, List, [], ◌∷◌, ◌++◌, map, flat_map, length, get_or, slice_get, min, Option, None, Some, if◌then◌else◌}
 use Rattle.std.specs.Fmt.{decimal}
 use Rattle.std.specs.List.{range_with_len, sum_by}
 use Rattle.std.specs.Option.{option_map_or}
@@ -110,13 +110,17 @@ number_of by_uid m = if by_uid then m.entry.uid else m.place
 abbrev pub numbers_of : Bool → List Message → List ℕ
 numbers_of by_uid rows = map (number_of by_uid) rows
 
--- it is recorded as a FETCH of the messages that it found
+-- it is recorded as a FETCH of these keys
+abbrev pub ask_of : Searching → List Key → Ask
+ask_of q keys = ask.Fetch q.mailbox keys false (is_of_more (needed q.key)) false (octets_of q)
+
+-- of those of the messages that it found
 abbrev pub search_ask : Searching → List (List ℕ) → Ask
-search_ask q texts = ask.Fetch q.mailbox (keys_of (found q texts)) false (is_of_more (needed q.key)) false (octets_of q)
+search_ask q texts = ask_of q (keys_of (found q texts))
 
 -- the same of messages, however they were found
 abbrev pub ask_for : Searching → List Message → Ask
-ask_for q rows = ask.Fetch q.mailbox (keys_of rows) false (is_of_more (needed q.key)) false (octets_of q)
+ask_for q rows = ask_of q (keys_of rows)
 
 -- the bodies whose texts it needs: those of all messages of the view that are there
 abbrev pub search_bodies : Searching → List Body

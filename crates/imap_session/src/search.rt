@@ -1,5 +1,5 @@
 //! SEARCH: the messages that match, the texts that it needs, and what it asks of the store.
-ghost use Rattle.std.specs.Prelude.{◌≡◌, ◌+◌, ◌<◌, ◌++◌, ◌∷◌, [], Ok, min, length, map, flat_map, get_or, true, IfOk, OnErr, OnOk, IfSome};
+ghost use Rattle.std.specs.Prelude.{◌≡◌, ◌+◌, ◌<◌, ◌++◌, ◌∷◌, [], Ok, min, length, map, flat_map, get_or, true, IfOk, OnErr, OnOk, if◌then◌else◌};
 ghost use Rattle.std.specs.Fmt.{decimal};
 ghost use Rattle.std.specs.List.{range_with_len};
 ghost use Rattle.shelf.specs.Notes.{size_of};
@@ -32,6 +32,13 @@ struct Found {
     tag: Name,
     asked: Ask,
     pending: Pending,
+}
+
+/// The messages that a SEARCH found: their keys, and the numbers that are told of them.
+#[derive(Drop)]
+struct Hits {
+    keys: Keys,
+    numbers: Uids,
 }
 
 fn is_known_charset(charset: &Option<Text>) -> bool
@@ -248,14 +255,17 @@ fn keys_of(alloc: Global, rows: &Messages) -> Result<Keys, NoMemory>
     Ok(Keys::from_vec(keys))
 }
 
+/// The number that is told of a message: its UID, or its number in the view.
+fn number_told(by_uid: bool, number: u32, uid: u64) -> u64
+    ensures { result ≡ (if by_uid then uid else number) }
+{
+    if by_uid { uid } else { u64::from(number) }
+}
+
 fn number_of(by_uid: bool, row: &Message) -> u64
     ensures { result ≡ search_spec.number_of by_uid row.now }
 {
-    if by_uid {
-        row.entry.uid
-    } else {
-        row.place as u64
-    }
+    number_told(by_uid, row.place, row.entry.uid)
 }
 
 fn numbers_vec(alloc: Global, by_uid: bool, rows: &[Message]) -> Result<Vec<u64>, AllocError>
@@ -271,19 +281,18 @@ fn numbers_of(alloc: Global, by_uid: bool, rows: &Messages) -> Result<Uids, NoMe
     Ok(Uids::from_vec(numbers))
 }
 
-/// What it asks of the store where it found these messages, and what is to be said then.
-fn found_as(
+/// What it asks of the store for the messages of these keys, and what is to be said of their numbers then.
+fn found_told(
     alloc: Global,
     tag: &Name,
     searching: &Searching,
-    rows: &Messages,
+    keys: Keys,
+    numbers: Uids,
 ) -> Result<Found, NoMemory>
     ensures tag { IfOk result (λ f. f.tag ≡ tag.now) }
-    ensures asked { IfOk result (λ f. f.asked ≡ search_spec.ask_for searching.now rows.now) }
-    ensures pending { IfOk result (λ f. f.pending ≡ spec.pending_for searching.now rows.now) }
+    ensures asked { IfOk result (λ f. f.asked ≡ search_spec.ask_of searching.now keys) }
+    ensures pending { IfOk result (λ f. f.pending ≡ Pending.Search searching.now.by_uid numbers) }
 {
-    let keys = keys_of(alloc, rows)?;
-    let numbers = numbers_of(alloc, searching.by_uid, rows)?;
     let mailbox = searching.mailbox.copy(alloc)?;
     let tag = tag.copy(alloc)?;
     Ok(Found {
@@ -301,6 +310,22 @@ fn found_as(
             numbers,
         },
     })
+}
+
+/// The same where it found these messages.
+fn found_as(
+    alloc: Global,
+    tag: &Name,
+    searching: &Searching,
+    rows: &Messages,
+) -> Result<Found, NoMemory>
+    ensures tag { IfOk result (λ f. f.tag ≡ tag.now) }
+    ensures asked { IfOk result (λ f. f.asked ≡ search_spec.ask_for searching.now rows.now) }
+    ensures pending { IfOk result (λ f. f.pending ≡ spec.pending_for searching.now rows.now) }
+{
+    let keys = keys_of(alloc, rows)?;
+    let numbers = numbers_of(alloc, searching.by_uid, rows)?;
+    found_told(alloc, tag, searching, keys, numbers)
 }
 
 /// What it asks of the store with the texts that it needs, and what is to be said then.
@@ -342,27 +367,27 @@ fn meets_told(searching: &Searching, number: u32, entry: &Entry, size: u32) -> b
 
 /// Adds a message, where it matches what is told without its text.
 fn keep_told(
-    found: &mut Messages,
+    found: &mut Hits,
     searching: &Searching,
     number: u32,
     entry: &Entry,
     size: u32,
 ) -> Result<(), NoMemory>
-    ensures { OnOk result (found.new ≡ found.old ++ search_spec.kept searching.now [] 0 (record { place = number; entry = entry.now; size = size })) }
+    ensures keys { OnOk result (found.new.keys ≡ found.old.keys ++ search_spec.keys_of (search_spec.kept searching.now [] 0 (record { place = number; entry = entry.now; size = size }))) }
+    ensures numbers { OnOk result (found.new.numbers ≡ found.old.numbers ++ search_spec.numbers_of searching.now.by_uid (search_spec.kept searching.now [] 0 (record { place = number; entry = entry.now; size = size }))) }
 {
     if meets_told(searching, number, entry, size) {
-        found.push(Message {
-            place: number,
-            entry: *entry,
-            size,
-        })?;
+        found.keys.push(entry.key)?;
+        found
+            .numbers
+            .push(number_told(searching.by_uid, number, entry.uid))?;
     }
     Ok(())
 }
 
 /// Adds the message at a place of a view, where it matches what is told without its size and its text.
 fn keep_bare(
-    found: &mut Messages,
+    found: &mut Hits,
     searching: &Searching,
     entries: &[Entry],
     view: &[Known],
@@ -370,7 +395,8 @@ fn keep_bare(
 ) -> Result<(), NoMemory>
     requires order { is_by_uid entries.now ≡ true }
     requires few { place < 4294967295 }
-    ensures { OnOk result (found.new ≡ found.old ++ search_spec.bare_kept untold searching.now entries.now view.now place) }
+    ensures keys { OnOk result (found.new.keys ≡ found.old.keys ++ search_spec.keys_of (search_spec.bare_kept untold searching.now entries.now view.now place)) }
+    ensures numbers { OnOk result (found.new.numbers ≡ found.old.numbers ++ search_spec.numbers_of searching.now.by_uid (search_spec.bare_kept untold searching.now entries.now view.now place)) }
 {
     match entry_at(entries, view, place) {
         None => Ok(()),
@@ -384,12 +410,16 @@ fn matching_bare(
     searching: &Searching,
     entries: &[Entry],
     view: &[Known],
-) -> Result<Messages, NoMemory>
+) -> Result<Hits, NoMemory>
     requires order { is_by_uid entries.now ≡ true }
     requires few { length view.now < 4294967295 }
-    ensures { IfOk result (λ rows. rows ≡ search_spec.bare_found untold searching.now entries.now view.now) }
+    ensures keys { IfOk result (λ hits. hits.keys ≡ search_spec.keys_of (search_spec.bare_found untold searching.now entries.now view.now)) }
+    ensures numbers { IfOk result (λ hits. hits.numbers ≡ search_spec.numbers_of searching.now.by_uid (search_spec.bare_found untold searching.now entries.now view.now)) }
 {
-    let mut found = Messages::new(alloc);
+    let mut found = Hits {
+        keys: Keys::new(alloc),
+        numbers: Uids::new(alloc),
+    };
     for place in 0..view.len() as u32 {
         keep_bare(&mut found, searching, entries, view, place)?;
     }
@@ -398,7 +428,7 @@ fn matching_bare(
 
 /// The same with its size, which is looked for behind that of the message before.
 fn keep_sized(
-    found: &mut Messages,
+    found: &mut Hits,
     searching: &Searching,
     sizes: &Shelf,
     entries: &[Entry],
@@ -408,7 +438,8 @@ fn keep_sized(
 ) -> Result<(), NoMemory>
     requires order { is_by_uid entries.now ≡ true }
     requires few { place < 4294967295 }
-    ensures { OnOk result (found.new ≡ found.old ++ search_spec.bare_kept (size_of sizes.now.notes) searching.now entries.now view.now place) }
+    ensures keys { OnOk result (found.new.keys ≡ found.old.keys ++ search_spec.keys_of (search_spec.bare_kept (size_of sizes.now.notes) searching.now entries.now view.now place)) }
+    ensures numbers { OnOk result (found.new.numbers ≡ found.old.numbers ++ search_spec.numbers_of searching.now.by_uid (search_spec.bare_kept (size_of sizes.now.notes) searching.now entries.now view.now place)) }
 {
     match entry_at(entries, view, place) {
         None => Ok(()),
@@ -426,12 +457,16 @@ fn matching_sized(
     sizes: &Shelf,
     entries: &[Entry],
     view: &[Known],
-) -> Result<Messages, NoMemory>
+) -> Result<Hits, NoMemory>
     requires order { is_by_uid entries.now ≡ true }
     requires few { length view.now < 4294967295 }
-    ensures { IfOk result (λ rows. rows ≡ search_spec.bare_found (size_of sizes.now.notes) searching.now entries.now view.now) }
+    ensures keys { IfOk result (λ hits. hits.keys ≡ search_spec.keys_of (search_spec.bare_found (size_of sizes.now.notes) searching.now entries.now view.now)) }
+    ensures numbers { IfOk result (λ hits. hits.numbers ≡ search_spec.numbers_of searching.now.by_uid (search_spec.bare_found (size_of sizes.now.notes) searching.now entries.now view.now)) }
 {
-    let mut found = Messages::new(alloc);
+    let mut found = Hits {
+        keys: Keys::new(alloc),
+        numbers: Uids::new(alloc),
+    };
     let mut near = 0;
     for place in 0..view.len() as u32 {
         keep_sized(
@@ -448,9 +483,10 @@ fn matching_told(
     sizes: &Shelf,
     entries: &[Entry],
     view: &[Known],
-) -> Result<Messages, NoMemory>
+) -> Result<Hits, NoMemory>
     requires order { is_by_uid entries.now ≡ true }
-    ensures { IfOk result (λ rows. rows ≡ search_spec.bare_found (search_spec.told (needed searching.now.key) (size_of sizes.now.notes)) searching.now entries.now view.now) }
+    ensures keys { IfOk result (λ hits. hits.keys ≡ search_spec.keys_of (search_spec.bare_found (search_spec.told (needed searching.now.key) (size_of sizes.now.notes)) searching.now entries.now view.now)) }
+    ensures numbers { IfOk result (λ hits. hits.numbers ≡ search_spec.numbers_of searching.now.by_uid (search_spec.bare_found (search_spec.told (needed searching.now.key) (size_of sizes.now.notes)) searching.now entries.now view.now)) }
 {
     if view.len() >= u32::MAX as usize {
         return Err(NoMemory);
@@ -498,8 +534,8 @@ fn found_bare(
     ensures asked { IfOk result (λ f. f.asked ≡ search_spec.ask_for searching.now (search_spec.bare_found (search_spec.told (needed searching.now.key) (size_of sizes.now.notes)) searching.now entries.now view.now)) }
     ensures pending { IfOk result (λ f. f.pending ≡ spec.pending_for searching.now (search_spec.bare_found (search_spec.told (needed searching.now.key) (size_of sizes.now.notes)) searching.now entries.now view.now)) }
 {
-    let rows = matching_told(alloc, searching, sizes, entries, view.as_slice())?;
-    found_as(alloc, tag, searching, &rows)
+    let Hits { keys, numbers } = matching_told(alloc, searching, sizes, entries, view.as_slice())?;
+    found_told(alloc, tag, searching, keys, numbers)
 }
 
 /// The same of the selected mailbox.
