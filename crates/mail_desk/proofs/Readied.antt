@@ -1,8 +1,7 @@
 -- What is known of an item that is asked for, and of one for which all is ready.
-use Rattle.std.proofs.Common.{◌≡◌, ℕ, ◌<◌, ◌≤◌, ◌==◌, Bool, true, false, List, [], ◌∷◌, ◌++◌, Option, None, Some, Result, Ok, Err, IfOk, OnOk, length, nat_lt, option_map, refl, ap, sym, subst, ◌∙◌, arith}
+use Rattle.std.proofs.Common.{◌≡◌, ℕ, ◌<◌, ◌≤◌, ◌==◌, Bool, true, false, List, [], ◌∷◌, ◌++◌, Option, None, Some, Result, Ok, Err, IfOk, nat_lt, option_map, refl, ap, sym, subst, ◌∙◌, arith}
 use Rattle.std.proofs.lemmas.Bool.Decides.{nat_tests}
 use Rattle.undo_base.specs.declared.keys.User.{User}
-use Rattle.undo_base.specs.declared.memory.NoMemory.{NoMemory as MemoryWant}
 use Rattle.verb_core.specs.declared.ask.Ask.{Ask}
 use Rattle.verb_core.specs.declared.ask.Refused.{Refused}
 use Rattle.verb_core.specs.declared.ask.Refused.TheVariants.{NameShape, Fixed, NoBox, HasInferiors, TryCreate, Exists, Gone, TooMany, TooLarge, BoxesFull, UidWide, Numbers}
@@ -13,18 +12,15 @@ use Rattle.verb_core.specs.Deeds.{with_text}
 use Rattle.verb_core.specs.declared.item.Item.{Item}
 use Rattle.verb_core.specs.Items.{IsWellFormed}
 use Rattle.verb_core.specs.Live.{asked_item, answered, asks_fixed, first_of, if_so, is_gone, deletes_superior, is_misshapen, is_missing, is_there, is_uid_wide, key_count, live, named, new_names, or_item, overfills, targets, too_large}
-use Rattle.verb_core.specs.declared.item.Shown.{Shown}
 use Rattle.verb_core.specs.Stamps.{stamps_after}
 use Rattle.verb_core.specs.Step.{step}
 use Rattle.verb_core.specs.Store.{MailStore}
-use Rattle.stored_items.specs.Stored.{looks_at_text, step_text}
-use Rattle.box_store.specs.Effects.{IsReady, applied}
+use Rattle.stored_items.specs.Stored.{looks_at_text}
 use Rattle.mail_desk.specs.declared.ready.Made.{Made}
 use Rattle.mail_desk.specs.declared.ready.Ready.{Ready}
 use Rattle.store_kept.specs.Kept.{store_of}
 use Rattle.mail_desk.specs.Entering.{CanEnter, ready_of}
 use Rattle.mail_desk.specs.Held.{Held}
-use Rattle.mail_desk.specs.Stamping.{HasSpare, restamped}
 
 -- ---- what is asked for
 
@@ -52,13 +48,12 @@ asked_is s number at by ask deep j e =
     ∷ if_so (is_uid_wide s by ask (asked_item s number at by ask)) UidWide
     ∷ []) (number == 4194304) (Numbers number) (answered s (asked_item s number at by ask)) j e
 
-pub number_asked : (r : Result Item Refused) (s : MailStore) (number at : ℕ) (by : Option User) (ask : Ask) (deep : Bool) → IfOk r (λ item. live s number at by ask deep ≡ Ok item) → IfOk r (λ item. item.number ≡ number)
-number_asked (Ok item) s number at by ask deep is = ap (λ (i : Item). i.number) (asked_is s number at by ask deep item is).0
-number_asked (Err why) s number at by ask deep is = tt
+-- so it has the next number, and one was left
+pub number_due : (s : MailStore) (number at : ℕ) (by : Option User) (ask : Ask) (deep : Bool) (j : Item) → live s number at by ask deep ≡ Ok j → j.number ≡ number
+number_due s number at by ask deep j due = ap (λ (i : Item). i.number) (asked_is s number at by ask deep j due).0
 
-pub number_left : (r : Result Item Refused) (s : MailStore) (number at : ℕ) (by : Option User) (ask : Ask) (deep : Bool) → number ≤ 4194304 → IfOk r (λ item. live s number at by ask deep ≡ Ok item) → OnOk r (number < 4194304)
-number_left (Ok item) s number at by ask deep most is = let no = (asked_is s number at by ask deep item is).1 in grind (arith, nat_tests)
-number_left (Err why) s number at by ask deep most is = tt
+pub number_left : (s : MailStore) (number at : ℕ) (by : Option User) (ask : Ask) (deep : Bool) (j : Item) → number ≤ 4194304 → live s number at by ask deep ≡ Ok j → number < 4194304
+number_left s number at by ask deep j most due = let no = (asked_is s number at by ask deep j due).1 in grind (arith, nat_tests)
 
 -- ---- what is ready
 
@@ -66,30 +61,6 @@ number_left (Err why) s number at by ask deep most is = tt
 pub through : {A B W : Type 0} (r : Result A W) (f : A → B) (e : Result B W) → IfOk r (λ x. e ≡ Ok (f x)) → (P : B → Type 0) → IfOk e P → IfOk r (λ x. P (f x))
 through (Ok x) f e is P holds = subst (λ q. IfOk q P) is holds
 through (Err why) f e is P holds = tt
-
-pub can_enter : (r : Result Made MemoryWant) (held : Held) (item : Item) (text : List ℕ) → IsWellFormed held.kept.house item → item.number ≡ held.kept.next → held.kept.next < 4194304
-    → step_text (store_of held.kept) item text ≡ step (store_of held.kept) item
-    → IfOk r (λ made. applied made.effect (store_of held.kept) ≡ (step_text (store_of held.kept) item text).0)
-    → IfOk r (λ made. made.effect.shown ≡ (step_text (store_of held.kept) item text).1)
-    → IfOk r (λ made. restamped made.stamps held.kept.stamps ≡ stamps_after item.number (step_text (store_of held.kept) item text).0.boxes held.kept.stamps)
-    → IfOk r (λ made. HasSpare made.stamps (length held.kept.stamps))
-    → IfOk r (λ made. IsReady made.effect held.room.store)
-    → OnOk r (0 < held.room.items) → OnOk r (0 < held.room.notes)
-    → IfOk r (λ made. CanEnter (ready_of item made) held)
-can_enter (Ok made) held item text formed number left alike does shows stamps spare effect items notes = record {
-  formed = formed;
-  stored = refl;
-  number = number;
-  left = left;
-  does = does ∙ ap (λ (after : MailStore × Shown). after.0) alike;
-  shows = shows ∙ ap (λ (after : MailStore × Shown). after.1) alike;
-  stamps = stamps ∙ ap (λ (after : MailStore × Shown). stamps_after item.number after.0.boxes held.kept.stamps) alike;
-  spare = spare;
-  effect = effect;
-  items = items;
-  notes = notes;
-}
-can_enter (Err why) held item text formed number left alike does shows stamps spare effect items notes = tt
 
 -- an item can be entered with its text where it can as it is stored
 pub entered_as : (item stored : Item) (made : Made) (held : Held) → stored ≡ item → CanEnter (ready_of stored made) held → CanEnter (record { item = item; stored = stored; made = made }) held

@@ -5,13 +5,10 @@
 //! those of the definition.
 //!
 //! An item is performed as it is stored, with its text beside it, or with none where its text lies elsewhere and is not looked at.
-ghost use Rattle.std.specs.Prelude.{◌≡◌, ℕ, ◌<◌, ◌↔◌, map, IsTrue, IsSome, IfOk, IfErr, OnErr, OnOk, Ok, false, length, []};
+ghost use Rattle.std.specs.Prelude.{◌≡◌, ◌<◌, ◌↔◌, IsTrue, IsSome, IfOk, IfErr, OnErr, OnOk, Ok, false, []};
 ghost use Rattle.std.specs.List.{list_all, cons_option};
-ghost use Rattle.verb_core.specs.declared.mailbox.BoxId.{BoxId as TheBoxId};
-ghost use Rattle.verb_core.specs.declared.mailbox.Mailbox.{Mailbox as TheMailbox};
 ghost use Rattle.verb_core.specs.Deeds.{is_notice};
 ghost use Rattle.verb_core.specs.Items.{IsWellFormed, text_in};
-ghost use Rattle.verb_core.specs.Stamps.{stamps_after};
 ghost use Rattle.store_kept.specs.Kept.{performed, store_of};
 ghost use Rattle.verb_core.specs.Live.{is_users, live};
 ghost use Rattle.verb_core.specs.Step.{step};
@@ -20,7 +17,6 @@ ghost use Rattle.stored_items.specs.Stored.{looks_at_text, step_text, whole};
 ghost use Rattle.box_store.specs.Effects.{IsReady, applied};
 ghost use Rattle.box_store.specs.Refusing.{IsRefusal};
 ghost use Rattle.mail_desk.specs.Entering.{CanEnter, ready_of};
-ghost use Rattle.mail_desk.specs.Stamping.{HasSpare, restamped};
 ghost use Rattle.mail_desk.specs.Timeline.{NotesText, body_of};
 
 use crate::Desk;
@@ -37,7 +33,7 @@ use stored_items::StoredItem;
 use stored_items::laws::{stored_items_are_formed, stored_items_do_alike, texts_are_not_looked_at};
 use undo_base::{END_OF_NUMBERS, NoMemory, PastText, User};
 use verb_core::laws::{mail_is_kept, stamps_name_mailboxes, steps_keep_validity};
-use verb_core::{Ask, Item, Refused, Shown, Stamps};
+use verb_core::{Ask, Item, Refused, Shown};
 
 /// What an item does, with all room that the store needs for it, and what it changes of the stamps.
 #[derive(Drop)]
@@ -92,59 +88,7 @@ pub(crate) fn make_room(
     store.ready_effect(alloc, item.item(), text)
 }
 
-/// What an item does with a text, and what it changes of the stamps, with all room for it.
-fn make_parts(
-    alloc: Global,
-    store: &mut Store,
-    stamps: &Stamps,
-    timeline: &mut Numbered,
-    shelf: &mut Shelf,
-    item: &StoredItem,
-    text: &[u8],
-) -> Result<Made, NoMemory>
-    requires valid { IsValid store.old.store }
-    requires formed { IsWellFormed store.old.store.house item.now }
-    requires named { map (λ (r : TheBoxId × ℕ). r.0) stamps.now ≡ map (λ (r : TheBoxId × TheMailbox). r.0) store.old.store.boxes }
-    ensures store { store.new.store ≡ store.old.store }
-    ensures timeline { timeline.new.items ≡ timeline.old.items }
-    ensures shelf { shelf.new.notes ≡ shelf.old.notes }
-    ensures marks { shelf.new.marks ≡ shelf.old.marks }
-    ensures does { IfOk result (λ made. applied made.effect store.old.store ≡ (step_text store.old.store item.now text.now).0) }
-    ensures shows { IfOk result (λ made. made.effect.shown ≡ (step_text store.old.store item.now text.now).1) }
-    ensures stamps { IfOk result (λ made. restamped made.stamps stamps.now ≡ stamps_after item.now.number (step_text store.old.store item.now text.now).0.boxes stamps.now) }
-    ensures spare { IfOk result (λ made. HasSpare made.stamps (length stamps.now)) }
-    ensures effect { IfOk result (λ made. IsReady made.effect store.new) }
-    ensures items { OnOk result (0 < timeline.new.room) }
-    ensures notes { OnOk result (0 < shelf.new.room) }
-{
-    stored_items_do_alike();
-    let changed = stamp_changes(alloc, store, stamps, item.item())?;
-    match make_room(alloc, store, timeline, shelf, item, text) {
-        Ok(effect) => Ok(Made {
-            effect,
-            stamps: changed,
-        }),
-        Err(NoMemory) => {
-            drop(changed);
-            Err(NoMemory)
-        }
-    }
-}
-
 impl Desk {
-    /// The item that is asked for now, or why there is none.
-    fn asked(&self, alloc: Global, at: u64, by: Option<User>, ask: Ask) -> Result<Item, Refused>
-        requires by { IsSome by ↔ IsTrue (is_users ask) }
-        requires known { IsTrue (list_all (is_known self.now.kept.house) (cons_option by [])) }
-        ensures item { IfOk result (λ item. live (store_of self.now.kept) self.now.kept.next at by ask self.now.kept.deep ≡ Ok item) }
-        ensures formed { IfOk result (λ item. IsWellFormed self.now.kept.house item) }
-        ensures number { IfOk result (λ item. item.number ≡ self.now.kept.next) }
-        ensures left { OnOk result (self.now.kept.next < END_OF_NUMBERS) }
-        ensures refused { IfErr result (λ refused. IsRefusal refused (live (store_of self.now.kept) self.now.kept.next at by ask self.now.kept.deep)) }
-    {
-        self.store.live(alloc, self.next, at, by, ask, self.deep)
-    }
-
     /// Finds what is asked for at a moment, and makes all room for it. The desk stays as it was but for its room.
     pub fn ready(
         &mut self,
@@ -162,7 +106,7 @@ impl Desk {
         ensures ready { IfOk result (λ ready. CanEnter ready self.new) }
         ensures refused { IfErr result (λ refused. IsRefusal refused (live (store_of self.old.kept) self.old.kept.next at by ask self.old.kept.deep)) }
     {
-        let item = self.asked(alloc, at, by, ask)?;
+        let item = self.store.live(alloc, self.next, at, by, ask, self.deep)?;
         match self.ready_item(alloc, item) {
             Ok(ready) => Ok(ready),
             Err(NoMemory) => Err(Refused::NoMemory),
@@ -182,14 +126,8 @@ impl Desk {
     {
         stored_items_do_alike();
         let stored = StoredItem::copy_of(alloc, &item)?;
-        match self.make_ready(alloc, &stored, item.deed.text_bytes()) {
-            Ok(made) => Ok(Ready { item, stored, made }),
-            Err(NoMemory) => {
-                drop(item);
-                drop(stored);
-                Err(NoMemory)
-            }
-        }
+        let made = self.make_ready(alloc, &stored, item.deed.text_bytes())?;
+        Ok(Ready { item, stored, made })
     }
 
     /// Makes all room for an item of the next number, which does with a text what it does with its own. The desk stays as it was but
@@ -209,15 +147,22 @@ impl Desk {
         ensures marks { self.new.marks ≡ self.old.marks }
         ensures ready { IfOk result (λ made. CanEnter (ready_of item.now made) self.new) }
     {
-        make_parts(
+        stored_items_do_alike();
+        let stamps = stamp_changes(alloc, &self.store, &self.stamps, item.item())?;
+        match make_room(
             alloc,
             &mut self.store,
-            &self.stamps,
             &mut self.timeline,
             &mut self.shelf,
             item,
             text,
-        )
+        ) {
+            Ok(effect) => Ok(Made { effect, stamps }),
+            Err(NoMemory) => {
+                drop(stamps);
+                Err(NoMemory)
+            }
+        }
     }
 
     /// Enters an item for which all is ready, and gives it back with its text, which lies so far behind the front of the payload

@@ -18,5 +18,5 @@ make_ready-requires-clause-alike c =
     c.stored_items_do_alike.ensures.with_own (store_of c.args.self.now.kept) c.in_ok-stored.stored c.text_bytes.result.now
     (c.text_bytes.ensures ∙ ap (λ (i : Item). unwrap_or (text_in i.deed) []) (sym c.in_ok-stored.ensures))
 
-pub returns-in-Ok-clause-ready : goal.returns-in-Ok-clause-ready
-returns-in-Ok-clause-ready c = entered_as c.args.item c.in_ok-stored.stored c.in-Ok.made c.make_ready.new.self c.in_ok-stored.ensures c.in-Ok.ensures.ready
+pub returns-clause-ready : goal.returns-clause-ready
+returns-clause-ready c = entered_as c.args.item c.in_ok-stored.stored c.in_ok-made.made c.make_ready.new.self c.in_ok-stored.ensures c.in_ok-made.ensures.ready
