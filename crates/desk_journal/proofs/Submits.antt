@@ -20,7 +20,7 @@ use Rattle.desk_journal.specs.declared.fault.ActFault.{ActFault}
 use Rattle.desk_journal.specs.Lasting.{JournalTold, Lasting, lasting}
 use Rattle.desk_journal.specs.Records.{after_record}
 use Rattle.desk_journal.specs.Sealing.{IsRecordOf, IsRecordTo}
-use Rattle.desk_journal.specs.Submitting.{ActWants, ActsNone, IsActOutcomeOf, IsOutcomeOf, RefusesNone, SealsBytes, SealsNone, SubmitWants, SubmitsNone, WritesNone}
+use Rattle.desk_journal.specs.Submitting.{ActWants, ActsNone, IsActOutcomeOf, IsOutcomeOf, SealsBytes, SealsNone, SubmitWants, SubmitsNone, WritesNone}
 use Rattle.desk_journal.proofs.Sealed.{seals_failed, seals_from, seals_none}
 
 -- the record of an item that is kept elsewhere as the same
@@ -35,18 +35,11 @@ ok_submitted (Ok item) due kept new found is copy done =
     ap (submitted_as kept) is ∙ (λ j. record { outcome = Ok (sym copy j); kept = sym done j })
 ok_submitted (Err fault) due kept new found is copy done = tt
 
--- sealing refuses for want of memory alone
-pub outcome_refuses_none : (fault : SealFault) (out : SubmitFault) → IsOutcomeOf fault out → RefusesNone (Err out)
-outcome_refuses_none log_faults.Disk out is = subst (λ (o : SubmitFault). RefusesNone (Err o)) (sym is) tt
-outcome_refuses_none log_faults.NoMemory out is = subst (λ (o : SubmitFault). RefusesNone (Err o)) (sym is) refl
-outcome_refuses_none log_faults.Closed out is = absurd is
-
--- where no ask is refused for more, nothing is owed
-pub none_written : {D : Type 0} (result : Result Item SubmitFault) (old new : Lasting D) → RefusesNone result → WritesNone result old new
-none_written (Ok item) old new none = tt
-none_written (Err (ask_faults.Refused why)) old new none = λ more. absurd (more none)
-none_written (Err ask_faults.Disk) old new none = tt
-none_written (Err ask_faults.Closed) old new none = tt
+-- sealing refuses for want of memory alone, where nothing is owed
+pub outcome_writes_none : {D : Type 0} (fault : SealFault) (out : SubmitFault) (old new : Lasting D) → IsOutcomeOf fault out → WritesNone (Err out) old new
+outcome_writes_none log_faults.Disk out old new is = subst (λ (o : SubmitFault). WritesNone (Err o) old new) (sym is) tt
+outcome_writes_none log_faults.NoMemory out old new is = subst (λ (o : SubmitFault). WritesNone (Err o) old new) (sym is) (λ more. absurd (more refl))
+outcome_writes_none log_faults.Closed out old new is = absurd is
 
 -- what was found has these bytes, and the text so far behind their front
 pub found_as : {T W : Type 0} (result : Result T W) (bytes_in : T → List ℕ) (from_in : T → ℕ) (bytes : List ℕ) (from : ℕ) (Q : List ℕ → ℕ → Type 0) → Q bytes from

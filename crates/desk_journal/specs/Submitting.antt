@@ -34,13 +34,6 @@ IsActOutcomeOf log_faults.Disk fault = fault ≡ act_faults.Disk
 IsActOutcomeOf log_faults.NoMemory fault = fault ≡ act_faults.NoMemory
 IsActOutcomeOf log_faults.Closed fault = ⊥
 
--- an ask that is refused finds no memory
-abbrev pub RefusesNone : Result Item SubmitFault → Type 0
-RefusesNone (Ok item) = Unit {0}
-RefusesNone (Err (IsRefused why)) = why ≡ NoMemory
-RefusesNone (Err Disk) = Unit {0}
-RefusesNone (Err Closed) = Unit {0}
-
 -- an ask that is refused for more than want of memory writes nothing
 abbrev pub WritesNone : {D : Type 0} → Result Item SubmitFault → Lasting D → Lasting D → Type 0
 WritesNone (Ok item) old new = Unit {0}

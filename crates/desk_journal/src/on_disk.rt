@@ -64,17 +64,23 @@ impl<D: Disk> Journal<D> {
         ensures { result ≡ record { gate = self.now.gate; length = length payload.now } }
     {
         Place {
-            gate: self.past.end(),
+            gate: self.past.end,
             length: payload.bytes().len() as u32,
         }
     }
 
-    /// Seals a payload.
+    /// Seals a payload behind the last gate, and goes on to the next.
     pub fn seal(&mut self, alloc: Global, payload: &Text) -> Result<(), SealFault>
         requires { self.old.closed ≡ false }
         ensures { SealsBytes D.told payload.now self.old self.new result }
     {
-        self.past.seal(alloc, &mut self.log, payload)
+        match self.log.seal(alloc, &mut self.past.disk, payload.bytes()) {
+            Ok(_) => {
+                self.past.end = self.log.last_gate();
+                Ok(())
+            }
+            Err(fault) => Err(fault),
+        }
     }
 
     /// The disk as it is.

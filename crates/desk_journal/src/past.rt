@@ -1,14 +1,12 @@
 //! What lies on a disk before a gate of its journal.
-ghost use Rattle.std.specs.Prelude.{◌≡◌, ◌<◌, ◌≤◌, ◌+◌, ◌^◌, ℕ, List, [], ◌∷◌, Some, true, false, length, slice_range, IfOk, IfSome, OnOk, OnErr, IsErrOf};
+ghost use Rattle.std.specs.Prelude.{◌≡◌, ◌<◌, ◌≤◌, ◌+◌, ◌^◌, ℕ, List, Some, length, slice_range, IfOk, IfSome};
 ghost use Rattle.std.specs.Int.{to_be_bytes, w32};
-ghost use Rattle.seal_log.specs.Causes.{ReadAtCause, SealWants};
+ghost use Rattle.seal_log.specs.Causes.{ReadAtCause};
 ghost use Rattle.seal_log.specs.Journal.{LiesAt};
-ghost use Rattle.seal_log.specs.Log.{last_gate};
-ghost use Rattle.seal_log.specs.Settled.{Holds, IsSettled, ReadsAlone};
-ghost use Rattle.desk_journal.specs.Sealing.{SealsPayloads};
+ghost use Rattle.seal_log.specs.Settled.{Holds, ReadsAlone};
 ghost use Rattle.desk_journal.specs.Telling.{IsPastRead};
 
-use seal_log::{Log, Place, ReadFault, SealFault, read_before, unread};
+use seal_log::{Place, ReadFault, read_before, unread};
 use std::alloc::Global;
 use std::marker::Model;
 use undo_base::{PastText, Text};
@@ -17,8 +15,8 @@ use undo_outside::Disk;
 /// A disk, and the gate at which the journal on it ends.
 #[derive(Drop)]
 pub struct Past<D: Disk> {
-    disk: D,
-    end: u64,
+    pub(crate) disk: D,
+    pub(crate) end: u64,
 }
 
 impl<D: Disk> Model for Past<D> {
@@ -30,36 +28,6 @@ impl<D: Disk> Model for Past<D> {
     ghost view = { λ p. record { disk = p.disk; end = p.end } };
 
     ghost invariant = { λ p. p.end < (D.told p.disk).size };
-}
-
-fn seal_payload<D: Disk>(
-    alloc: Global,
-    log: &mut Log,
-    disk: &mut D,
-    payload: &Text,
-) -> Result<(), SealFault>
-    requires end { last_gate log.old < (D.told disk.old).size }
-    requires open { log.old.closed ≡ false }
-    ensures ok { OnOk result (SealsPayloads (payload.now ∷ []) [] (D.told disk.old) (D.told disk.new) (last_gate log.old) (last_gate log.new)) }
-    ensures failed { IsErrOf result SealFault.Disk
-        → SealsPayloads [] (payload.now ∷ []) (D.told disk.old) (D.told disk.new) (last_gate log.old) (last_gate log.new) }
-    ensures no_memory { IsErrOf result SealFault.NoMemory
-        → SealsPayloads [] [] (D.told disk.old) (D.told disk.new) (last_gate log.old) (last_gate log.new) }
-    ensures reads { (D.told disk.new).failed_reads ≡ (D.told disk.old).failed_reads }
-    ensures wants { SealWants D.told disk.old disk.new result }
-    ensures not_closed { IsErrOf result SealFault.Closed → ⊥ }
-    ensures still_open { OnOk result (log.new.closed ≡ false) }
-    ensures open_again { IsErrOf result SealFault.NoMemory → log.new.closed ≡ false }
-    ensures closes { IsErrOf result SealFault.Disk → log.new.closed ≡ true }
-    ensures next { OnOk result (last_gate log.new ≡ last_gate log.old + 5 + length payload.now) }
-    ensures err { OnErr result (last_gate log.new ≡ last_gate log.old) }
-    ensures held { (payloads : List (List ℕ)) → IsSettled (D.told disk.old) (last_gate log.old) payloads → Holds (D.told disk.new) payloads }
-    ensures within { last_gate log.new < (D.told disk.new).size }
-{
-    match log.seal(alloc, disk, payload.bytes()) {
-        Ok(_) => Ok(()),
-        Err(fault) => Err(fault),
-    }
 }
 
 /// The number in the four bytes from a place on.
@@ -165,36 +133,6 @@ impl<D: Disk> Past<D> {
             Ok(length) => Ok(place_before(self.end, gate, length)),
             Err(fault) => Err(fault),
         }
-    }
-
-    /// Seals a payload behind the gate, with the journal's log, and goes on to the next gate.
-    pub(crate) fn seal(
-        &mut self,
-        alloc: Global,
-        log: &mut Log,
-        payload: &Text,
-    ) -> Result<(), SealFault>
-        requires gate { last_gate log.old ≡ self.old.end }
-        requires open { log.old.closed ≡ false }
-        ensures gate { last_gate log.new ≡ self.new.end }
-        ensures ok { OnOk result (SealsPayloads (payload.now ∷ []) [] (D.told self.old.disk) (D.told self.new.disk) self.old.end self.new.end) }
-        ensures failed { IsErrOf result SealFault.Disk
-            → SealsPayloads [] (payload.now ∷ []) (D.told self.old.disk) (D.told self.new.disk) self.old.end self.new.end }
-        ensures no_memory { IsErrOf result SealFault.NoMemory
-            → SealsPayloads [] [] (D.told self.old.disk) (D.told self.new.disk) self.old.end self.new.end }
-        ensures reads { (D.told self.new.disk).failed_reads ≡ (D.told self.old.disk).failed_reads }
-        ensures wants { SealWants D.told self.old.disk self.new.disk result }
-        ensures not_closed { IsErrOf result SealFault.Closed → ⊥ }
-        ensures still_open { OnOk result (log.new.closed ≡ false) }
-        ensures open_again { IsErrOf result SealFault.NoMemory → log.new.closed ≡ false }
-        ensures closes { IsErrOf result SealFault.Disk → log.new.closed ≡ true }
-        ensures next { OnOk result (self.new.end ≡ self.old.end + 5 + length payload.now) }
-        ensures err { OnErr result (self.new.end ≡ self.old.end) }
-        ensures held { (payloads : List (List ℕ)) → IsSettled (D.told self.old.disk) self.old.end payloads → Holds (D.told self.new.disk) payloads }
-    {
-        let sealed = seal_payload(alloc, log, &mut self.disk, payload);
-        self.end = log.last_gate();
-        sealed
     }
 
     /// The disk as it is.

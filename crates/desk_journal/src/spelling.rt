@@ -1,6 +1,6 @@
 //! The bytes of records.
 ghost use Rattle.std.specs.Prelude.{◌≡◌, IsTrue, IfOk, OnOk};
-ghost use Rattle.verb_bytes.specs.declared.journal.JournalRecord.TheVariants.{Format, Verb, Operator, Cycle, Upgrade, Withdraw};
+ghost use Rattle.verb_bytes.specs.declared.journal.JournalRecord.TheVariants.{Format, Operator, Cycle, Upgrade, Withdraw};
 ghost use Rattle.verb_bytes.specs.declared.journal.JournalRecord.{JournalRecord as TheRecord};
 ghost use Rattle.verb_bytes.specs.Spelling.{record_bytes};
 ghost use Rattle.verb_bytes.specs.Writing.{Encodes};
@@ -9,13 +9,13 @@ ghost use Rattle.desk_journal.specs.Records.{is_spelled};
 use std::alloc::Global;
 use undo_base::{Copies, Name, NoMemory, Text};
 use verb_bytes::{
-    CycleAsk, JournalRecord, Unwritten, spell_act, spell_cycle, spell_item, spell_record,
-    spell_upgrade, spell_withdraw,
+    CycleAsk, JournalRecord, Unwritten, spell_act, spell_cycle, spell_record, spell_upgrade,
+    spell_withdraw,
 };
-use verb_core::{Act, Conf, House, Item};
+use verb_core::{Act, Conf, House};
 
 /// Bytes that were written. Those of a record without a spelling find no memory.
-fn written(bytes: Result<Text, Unwritten>) -> Result<Text, NoMemory>
+pub fn written(bytes: Result<Text, Unwritten>) -> Result<Text, NoMemory>
     ensures spelled { (what : TheRecord) → Encodes what bytes → OnOk result (IsTrue (is_spelled what)) }
     ensures bytes { (what : TheRecord) → Encodes what bytes → IfOk result (λ text. text ≡ record_bytes what) }
 {
@@ -25,15 +25,7 @@ fn written(bytes: Result<Text, Unwritten>) -> Result<Text, NoMemory>
     }
 }
 
-/// The bytes of the record of a user's item. One without a spelling finds no memory.
-pub fn item_bytes(alloc: Global, item: &Item) -> Result<Text, NoMemory>
-    ensures spelled { OnOk result (IsTrue (is_spelled (Verb item.now))) }
-    ensures bytes { IfOk result (λ text. text ≡ record_bytes (Verb item.now)) }
-{
-    written(spell_item(alloc, item))
-}
-
-/// The same of an operator's act.
+/// The bytes of the record of an operator's act. One without a spelling finds no memory.
 pub fn act_bytes(alloc: Global, number: u32, at: u64, act: &Act) -> Result<Text, NoMemory>
     ensures spelled { OnOk result (IsTrue (is_spelled (Operator number at act.now))) }
     ensures bytes { IfOk result (λ text. text ≡ record_bytes (Operator number at act.now)) }

@@ -1,22 +1,18 @@
-use Rattle.std.proofs.Common.{subst}
-use Rattle.desk_journal.specs.Lasting.{JournalTold, journal_of}
-use Rattle.desk_journal.specs.Submitting.{SealsBytes}
+use Rattle.std.proofs.Common.{rules}
 use Rattle.desk_journal.proofs.on_disk.Journal.seal.Goals as goal
 
-pub returns : goal.returns
-returns g c =
-    let sealed = c.seal.ensures in
-    subst (λ (j : JournalTold g.row.D.Denot). SealsBytes g.D.Disk.told c.args.payload.now j (journal_of c.seal.new.self c.seal.new.log) c.seal.result) c.self.view_is (record {
-      ok = sealed.ok;
-      failed = sealed.failed;
-      no_memory = sealed.no_memory;
-      never = sealed.not_closed;
-      still_open = sealed.still_open;
-      open_again = sealed.open_again;
-      closes = sealed.closes;
-      next = sealed.next;
-      err = sealed.err;
-      held = sealed.held;
-      reads = sealed.reads;
-      wants = sealed.wants;
-    })
+pub returns-in-Err : goal.returns-in-Err
+returns-in-Err g c = record {
+      ok = search rules;
+      failed = search rules;
+      no_memory = search rules;
+      never = search rules;
+      still_open = search rules;
+      open_again = search rules;
+      closes = search rules;
+      next = search rules;
+      err = search rules;
+      held = search rules;
+      reads = search rules;
+      wants = search rules;
+    }
