@@ -12,7 +12,7 @@ use undo_base::Text;
 use undo_outside::{DiskFault, Failed};
 
 /// What was done to a file.
-#[derive(Debug, Drop, PartialEq, Eq)]
+#[derive(Drop)]
 pub enum FileCall {
     /// It was made, where it was missing.
     Made,

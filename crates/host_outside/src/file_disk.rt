@@ -31,7 +31,7 @@ use std::time::Clock;
 use undo_outside::{Disk, DiskFault, Failed, Fault};
 
 /// Whether a file is there.
-#[derive(Clone, Copy, Debug, PartialEq, Eq)]
+#[derive(Clone, Copy)]
 pub enum State {
     /// There is none, and each call fails.
     Nothing,

@@ -23,6 +23,8 @@ const SMALL: usize = 1024;
 /// The system is told of so many octets at a time.
 const PIECE: u64 = 131_072;
 
+const PIECE_LENGTH: i64 = 131_072;
+
 /// And of those so far behind what is read.
 const FAR: u64 = 1_048_576;
 
@@ -119,5 +121,5 @@ impl ReadAhead {
 fn tell(file: RawFd, from: u64)
     requires { from ≤ 9223372036854775807 }
 {
-    let _listens = libc::posix_fadvise(file, from as i64, PIECE as i64, SOON);
+    let _listens = libc::posix_fadvise(file, from as i64, PIECE_LENGTH, SOON);
 }

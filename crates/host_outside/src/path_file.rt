@@ -23,7 +23,7 @@ use crate::calls::FileCalls;
 use crate::locks::Locks;
 use crate::near::{Near, ReadAhead};
 use crate::telling::{Throttle, meaning, second};
-use std::fs::{self, OpenFile, OpenOptions};
+use std::fs::{self, Metadata, OpenFile, OpenOptions};
 use std::io::{self, ErrorKind};
 use std::os::fd::AsRawFd;
 use std::os::unix::fs::{FileExt, MetadataExt, OpenOptionsExt};
@@ -73,7 +73,7 @@ where
     /// The file at a path, opened and locked, and what was found there.
     pub(crate) fn find(files: R, path: Option<&'a String>, lock: Lock) -> (PathFile<'a, R>, Found) {
         let (file, found) = match path {
-            Some(path) => find_at(&files, path, lock),
+            Some(path) => find_at(&files, path.as_str(), lock),
             None => (None, Found::Nothing),
         };
         let near = match lock {
@@ -94,7 +94,7 @@ where
     /// Says which call failed, and why.
     fn tell(&self, what: &str, why: &io::Error) -> Failed {
         if let Some(path) = self.path {
-            tell_of(&self.files, path, what, why);
+            tell_of(&self.files, path.as_str(), what, why);
         }
         Failed
     }
@@ -126,7 +126,7 @@ where
 
     fn make(&mut self) -> Result<(), Failed> {
         let path = self.path.ok_or(Failed)?;
-        match make(&self.files, path) {
+        match make(&self.files, path.as_str()) {
             Ok(file) => {
                 self.file = Some(file);
                 Ok(())
@@ -147,7 +147,7 @@ where
     fn stand(&mut self, size: u64) -> Result<(), Failed> {
         let path = self.path.ok_or(Failed)?;
         let file = self.file.as_ref().ok_or(Failed)?;
-        match stands_at(&self.files, path, file, size) {
+        match stands_at(&self.files, path.as_str(), file, size) {
             Ok(()) => Ok(()),
             Err(error) => Err(self.tell("the store that is served is not there any more", &error)),
         }
@@ -186,7 +186,7 @@ where
 
     fn sync_folder(&mut self) -> Result<(), Failed> {
         let path = self.path.ok_or(Failed)?;
-        match sync_folder(&self.files, path) {
+        match sync_folder(&self.files, path.as_str()) {
             Ok(()) => Ok(()),
             Err(error) => Err(self.tell("its folder cannot be synced", &error)),
         }
@@ -207,8 +207,7 @@ fn read_near<F: FileExt>(
 }
 
 /// A line on what went wrong with the file at a path.
-fn tell_of<R: Eprint>(rt: &R, path: &String, what: &str, why: &io::Error) {
-    let path = path.as_str();
+fn tell_of<R: Eprint>(rt: &R, path: &str, what: &str, why: &io::Error) {
     let meaning = meaning(why);
     let _told = eprintln!(rt; "undomail: {path}: {what}: {meaning}{why}");
 }
@@ -221,7 +220,7 @@ fn finds_no_room(error: &io::Error) -> bool {
     )
 }
 
-fn find_at<R: Files + Eprint>(files: &R, path: &String, lock: Lock) -> (Option<R::File>, Found)
+fn find_at<R: Files + Eprint>(files: &R, path: &str, lock: Lock) -> (Option<R::File>, Found)
 where
     R::File: Locks,
 {
@@ -237,10 +236,20 @@ where
 
 /// Opens the plain file at a path, locks it, and finds its length, which nobody else changes from then on. What is no
 /// plain file is not opened, since that might wait.
-fn open_there<R: Files + Eprint>(files: &R, path: &String, lock: Lock) -> io::Result<(R::File, u64)>
+fn open_there<R: Files + Eprint>(files: &R, path: &str, lock: Lock) -> io::Result<(R::File, u64)>
 where
     R::File: Locks,
 {
+    find_plain(files, path)?;
+    let opened = match lock {
+        Lock::Exclusive => open_alone(files, path),
+        Lock::Shared => open_beside(files, path),
+    };
+    measured::<R>(opened?)
+}
+
+/// Looks whether a plain file stands at a path.
+fn find_plain<R: Files>(files: &R, path: &str) -> io::Result<()> {
     let found = fs::metadata(files, path)?;
     if found.is_dir() {
         return Err(io::Error::new(ErrorKind::IsADirectory, "this is a folder"));
@@ -248,59 +257,90 @@ where
     if !found.is_file() {
         return Err(io::Error::new(ErrorKind::InvalidInput, "this is no plain file"));
     }
-    let file = match lock {
-        Lock::Exclusive => open_alone(files, path)?,
-        Lock::Shared => open_beside(files, path)?,
-    };
-    let size = file.metadata()?.len();
-    Ok((file, size))
+    Ok(())
 }
 
-/// Opens a file for this program alone; for reading alone where it may not be written.
-fn open_alone<R: Files + Eprint>(files: &R, path: &String) -> io::Result<R::File>
+/// A file with its length.
+fn measured<R: Files>(file: R::File) -> io::Result<(R::File, u64)> {
+    match file.metadata() {
+        Ok(found) => Ok((file, found.len())),
+        Err(error) => {
+            drop(file);
+            Err(error)
+        }
+    }
+}
+
+/// A file that nobody else has locked.
+fn locked_alone<R: Files>(file: R::File) -> io::Result<R::File>
 where
     R::File: Locks,
 {
-    let file = match OpenOptions::new().read(true).write(true).open(files, path) {
-        Ok(file) => file,
+    match file.lock_alone() {
+        Ok(()) => Ok(file),
+        Err(error) => {
+            drop(file);
+            Err(error)
+        }
+    }
+}
+
+/// Opens a file for this program alone; for reading alone where it may not be written.
+fn open_alone<R: Files + Eprint>(files: &R, path: &str) -> io::Result<R::File>
+where
+    R::File: Locks,
+{
+    locked_alone::<R>(open_to_write(files, path)?)
+}
+
+fn open_to_write<R: Files + Eprint>(files: &R, path: &str) -> io::Result<R::File> {
+    match OpenOptions::new().read(true).write(true).open(files, path) {
+        Ok(file) => Ok(file),
         Err(error) => {
             tell_of(files, path, "it is opened for reading alone", &error);
-            fs::open(files, path)?
+            fs::open(files, path)
         }
-    };
-    file.lock_alone()?;
-    Ok(file)
+    }
 }
 
 /// Opens a file for reading, beside others that read it.
-fn open_beside<R: Files>(files: &R, path: &String) -> io::Result<R::File>
+fn open_beside<R: Files>(files: &R, path: &str) -> io::Result<R::File>
 where
     R::File: Locks,
 {
     let file = fs::open(files, path)?;
-    file.lock_beside()?;
-    Ok(file)
+    match file.lock_beside() {
+        Ok(()) => Ok(file),
+        Err(error) => {
+            drop(file);
+            Err(error)
+        }
+    }
 }
 
 /// Makes the file at a path, which nobody but its owner may read, and locks it. One that is there by now is left alone.
-fn make<R: Files>(files: &R, path: &String) -> io::Result<R::File>
+fn make<R: Files>(files: &R, path: &str) -> io::Result<R::File>
 where
     R::File: Locks,
 {
-    let file = OpenOptions::new()
+    let made = OpenOptions::new()
         .read(true)
         .write(true)
         .create_new(true)
         .mode(0o600)
-        .open(files, path)?;
-    file.lock_alone()?;
-    Ok(file)
+        .open(files, path);
+    locked_alone::<R>(made?)
 }
 
 /// Whether the open file is the one at its path, and has this length.
-fn stands_at<R: Files>(files: &R, path: &String, file: &R::File, size: u64) -> io::Result<()> {
+fn stands_at<R: Files>(files: &R, path: &str, file: &R::File, size: u64) -> io::Result<()> {
     let opened = file.metadata()?;
     let named = fs::metadata(files, path)?;
+    stands(&opened, &named, size)
+}
+
+/// The same of what is known of both.
+fn stands(opened: &Metadata, named: &Metadata, size: u64) -> io::Result<()> {
     if named.dev() != opened.dev() || named.ino() != opened.ino() {
         return Err(io::Error::new(ErrorKind::NotFound, "another file has its name"));
     }
@@ -314,10 +354,17 @@ fn stands_at<R: Files>(files: &R, path: &String, file: &R::File, size: u64) -> i
 }
 
 /// Syncs the folder of a file, so that the file is found there after a crash.
-fn sync_folder<R: Files>(files: &R, path: &String) -> io::Result<()> {
-    let folder = match Path::new(path.as_str()).parent() {
+fn sync_folder<R: Files>(files: &R, path: &str) -> io::Result<()> {
+    let folder = fs::open(files, folder_of(path))?;
+    let synced = folder.sync_all();
+    drop(folder);
+    synced
+}
+
+/// The folder of a file at a path.
+fn folder_of(path: &str) -> Path<'_> {
+    match Path::new(path).parent() {
         Some(folder) if !folder.as_os_str().is_empty() => folder,
         _ => Path::new("."),
-    };
-    fs::open(files, folder)?.sync_all()
+    }
 }

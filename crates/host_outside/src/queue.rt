@@ -77,7 +77,10 @@ impl Queue {
 
     /// Whether a place stands in it.
     pub(crate) fn has(&self, place: usize) -> bool {
-        self.marks.get(place).is_some_and(|mark| mark.is_called)
+        match self.marks.get(place) {
+            Some(mark) => mark.is_called,
+            None => false,
+        }
     }
 
     /// A place is visited in the next round, behind those that are called already.
@@ -135,10 +138,10 @@ impl Queue {
     }
 
     fn was_active(&self, place: usize) -> bool {
-        let round = self.round;
-        self.marks
-            .get(place)
-            .is_some_and(|mark| mark.active >= round)
+        match self.marks.get(place) {
+            Some(mark) => mark.active >= self.round,
+            None => false,
+        }
     }
 
     fn mark(&mut self, place: usize, is_called: bool)

@@ -23,21 +23,23 @@ impl Readiness {
     /// Of no sockets yet. Where the system has no such thing to give, this tells why.
     pub(crate) fn open<R: Net>(net: &R, alloc: Global) -> Result<io::Result<Readiness>, NoMemory> {
         let woken = Events::with_capacity(alloc, MOST_TOLD)?;
-        match Poll::new(net) {
-            Ok(poll) => Ok(Ok(Readiness { poll, woken })),
-            Err(error) => Ok(Err(error)),
-        }
+        Ok(match Poll::new(net) {
+            Ok(poll) => Ok(Readiness { poll, woken }),
+            Err(error) => {
+                drop(woken);
+                Err(error)
+            }
+        })
     }
 
     /// From now on it is told of this socket, under this number: at once where something is there. After a call that found
     /// nothing more, or no more room, it is told as soon as there is.
     pub(crate) fn add<S: AsRawFd>(&self, socket: &S, number: usize) -> io::Result<()> {
         let descriptor: RawFd = socket.as_raw_fd();
-        self.poll.registry().register(
-            &mut SourceFd(&descriptor),
-            Token(number),
-            Interest::READABLE | Interest::WRITABLE,
-        )
+        let mut source = SourceFd(&descriptor);
+        self.poll
+            .registry()
+            .register(&mut source, Token(number), in_and_out())
     }
 
     /// Waits until a socket is told of, for so many milliseconds at most.
@@ -50,4 +52,9 @@ impl Readiness {
     pub(crate) fn woken(&self) -> Iter<'_> {
         self.woken.iter()
     }
+}
+
+/// That something came, and that there is room again.
+fn in_and_out() -> Interest {
+    Interest::READABLE.add(Interest::WRITABLE)
 }

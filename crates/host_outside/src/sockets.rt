@@ -509,7 +509,7 @@ impl<R: Net + Clock + Eprint> Sockets<R> {
             return;
         }
         if self.lost.pass(second(&self.rt)).is_some() {
-            let _told = eprintln!(self.rt; "undomail: a connection cannot be taken: {why}");
+            say_lost(&self.rt, why);
         }
     }
 
@@ -521,9 +521,7 @@ impl<R: Net + Clock + Eprint> Sockets<R> {
             return;
         };
         if let Some(others) = self.refusals.pass(second(&self.rt)) {
-            let _told = eprintln!(self.rt;
-                "undomail: wrong password over {whose} from {peer}, and {others} since the last such line"
-            );
+            say_refused(&self.rt, whose, &peer, others);
         }
     }
 
@@ -742,8 +740,30 @@ fn first_free<S>(seats: &[Seat<S>]) -> Option<usize>
 /// Seats for all numbers, from 1 on.
 fn make_seats<S: Drop>(alloc: Global) -> Result<Vec<Seat<S>>, NoMemory> {
     let mut seats = Vec::new(alloc);
+    match add_seats(&mut seats) {
+        Ok(()) => Ok(seats),
+        Err(NoMemory) => {
+            drop(seats);
+            Err(NoMemory)
+        }
+    }
+}
+
+fn add_seats<S: Drop>(seats: &mut Vec<Seat<S>>) -> Result<(), NoMemory> {
     for _ in 0..SEATS {
         seats.push(Seat { connection: None })?;
     }
-    Ok(seats)
+    Ok(())
+}
+
+/// The line on a connection that can't be taken.
+fn say_lost<R: Eprint>(rt: &R, why: &io::Error) {
+    let _told = eprintln!(rt; "undomail: a connection cannot be taken: {why}");
+}
+
+/// The line on a login that was refused.
+fn say_refused<R: Eprint>(rt: &R, whose: &str, peer: &SocketAddr, others: u64) {
+    let _told = eprintln!(rt;
+        "undomail: wrong password over {whose} from {peer}, and {others} since the last such line"
+    );
 }

@@ -10,7 +10,7 @@ use std::mem;
 use std::time::Clock;
 
 /// Lets one line of a kind pass in each second, and counts those that it keeps back.
-#[derive(Debug, Drop)]
+#[derive(Drop)]
 pub(crate) struct Throttle {
     /// The second of the last line.
     last: Option<u64>,
