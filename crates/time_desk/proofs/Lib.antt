@@ -18,6 +18,8 @@ pub mod Bounding
 pub mod Repaired
 pub mod Rewinding
 pub mod Withdrawing
+pub mod Requests
+pub mod Answering
 pub mod Marking
 pub mod Messages
 pub mod Accounts

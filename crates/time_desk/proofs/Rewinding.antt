@@ -53,7 +53,7 @@ use Rattle.verb_core.specs.declared.bodies.BodiesFault.{BodiesFault}
 use Rattle.verb_core.specs.declared.bodies.BodiesFault.TheVariants as bodies_faults
 use Rattle.time_desk.specs.declared.fault.CycleFault.{CycleFault}
 use Rattle.time_desk.specs.declared.fault.CycleFault.TheVariants as cycle_faults
-use Rattle.time_desk.specs.Cycling.{CanBeUndone, CanRework, Cycles, CyclesAs, CyclesBy, CyclesNone, IsCycleOutcomeOf, IsCycled, IsFit, IsTold, Redoes, RedoesCause, RedoesCycle, RenotesAs, Reworks, RunsOutOfMemoryBy, Tries, TriesNone, after_rewound, asked_then, most_begun, most_reworked, most_tried}
+use Rattle.time_desk.specs.Cycling.{CanBeUndone, CanRework, Cycles, CyclesBy, CyclesNone, IsCycled, IsFit, IsTold, Redoes, RedoesCause, RedoesCycle, RenotesAs, Reworks, RunsOutOfMemoryBy, Tries, TriesNone, after_rewound, asked_then, most_begun, most_reworked, most_tried}
 use Rattle.time_desk.specs.Planning.{BodiesCause}
 use Rattle.time_desk.specs.Replaying.{DeliversOn, ToldOr, cycle_reads, delivered_told, repair_reads, some_marked, some_stored}
 use Rattle.std.specs.Option.{option_map_or}
@@ -299,36 +299,11 @@ reworks_none told held t old mid steps result fault why is fault_is cause marked
 pub refused_alike : (P : Result Rewound CycleRefused → Type 0) (result : Result Rewound CycleRefused) (refused why : CycleRefused) → result ≡ Err refused → refused ≡ why → P (Err why) → P result
 refused_alike P result refused why is same p = subst P (sym is) (subst (λ (r : CycleRefused). P (Err r)) (sym same) p)
 
--- why there is none, told of what is kept but for the snapshots
-pub refused_as : (kept : Kept) (ask : CycleAsk) (due : Due) (refused : CycleRefused) → IsRefusalOf (unmarked kept) ask due refused → IsRefusalOf kept ask due refused
-refused_as kept ask due (refusals.Point given) is = is
-refused_as kept ask due (refusals.Numbers next) is = is
-refused_as kept ask due refusals.Disk is = is
-refused_as kept ask due refusals.NoMemory is = is
-
--- where no cycle is due no read failed
-pub none_read_for : (disk : DiskTold) (kept : Kept) (ask : CycleAsk) (due : Due) (refused : CycleRefused) → IsRefusalOf kept ask due refused → (IsRewinds due → ⊥) → RedoesCause {T = Rewound} disk disk (Err refused)
-none_read_for disk kept ask due (refusals.Point given) is undue = refl
-none_read_for disk kept ask due (refusals.Numbers next) is undue = refl
-none_read_for disk kept ask due refusals.Disk is undue = absurd (undue is)
-none_read_for disk kept ask due refusals.NoMemory is undue = refl
-
--- and none is told of
-pub none_due_for : (kept : Kept) (ask : CycleAsk) (due : Due) (refused : CycleRefused) (some : Bool) → IsRefusalOf kept ask due refused → (IsRewinds due → ⊥) → IsErrOf {T = Rewound} (Err refused) refusals.Disk → IsTrue some
-none_due_for kept ask due (refusals.Point given) some is undue failed = absurd (cc failed)
-none_due_for kept ask due (refusals.Numbers next) some is undue failed = absurd (cc failed)
-none_due_for kept ask due refusals.Disk some is undue failed = absurd (undue is)
-none_due_for kept ask due refusals.NoMemory some is undue failed = absurd (cc failed)
-
 -- ---- a cycle in memory
 
 -- what is to be read for it, by the place of its point
 pub reads_there : (kept : Kept) (at : ℕ) (ask : CycleAsk) (place : ℕ) → position kept.timeline ask.point ≡ Some place → cycle_reads kept at ask ≡ repair_reads kept ask.replaces (repair_of kept at ask place)
 reads_there kept at ask place is = ap (λ (o : Option ℕ). option_map_or (λ (n : ℕ). repair_reads kept ask.replaces (repair_of kept at ask n)) o false) is
-
--- of what a desk begins with
-pub of_begun : (before kept : Kept) (at : ℕ) (ask : CycleAsk) (t : Task) → before ≡ kept → IsCycle before at ask t → IsCycle kept at ask t
-of_begun before kept at ask t same is = subst (λ (k : Kept). IsCycle k at ask t) same is
 
 -- it can be performed
 pub asked_can : {D : Type 0} (told : D → DiskTold) (held : Held) (gate at : ℕ) (ask : CycleAsk) (t : Task) → IsCycle (unmarked held.kept) at ask t
@@ -429,25 +404,6 @@ module _ {D : Type 0} (told : D → DiskTold) (held : Held) (at : ℕ) (ask : Cy
       → RedoesCycle told held at ask old.disk new.disk same before after (Err (refused_by fault))
   cycle_broken t old new same before after bodies_faults.Failed is done = cycle_failed t old new same before after is done
   cycle_broken t old new same before after bodies_faults.NoMemory is done = cycle_wanting t old new same before after is done
-
-  -- none is due
-  pub cycle_undue : (disk : D) (same : Type 0) (steps : ℕ) (refused : CycleRefused) → IsRefusalOf (unmarked held.kept) ask (due_anew (unmarked held.kept) at ask) refused → (IsRewinds (due_anew (unmarked held.kept) at ask) → ⊥) → same
-      → RedoesCycle told held at ask disk disk same steps steps (Err refused)
-  cycle_undue disk same steps refused refusal undue untouched = record {
-    alone = record {
-      cycled = tt;
-      fit = tt;
-      undone = tt;
-      refused = refused_as held.kept ask (due_anew held.kept at ask) refused refusal;
-      cause = none_read_for (told disk) (unmarked held.kept) ask (due_anew (unmarked held.kept) at ask) refused refusal undue;
-      due = none_due_for (unmarked held.kept) ask (due_anew (unmarked held.kept) at ask) refused (cycle_reads held.kept at ask) refusal undue;
-    };
-    untouched = λ u. untouched;
-    few = λ due due_is h. tt;
-    most = λ due due_is h. omega arith;
-    any = omega arith;
-    steps = tt;
-  }
 
 -- the same of a journal, before its gate
 pub cycle_through : {D : Type 0} (told : D → DiskTold) (held : Held) (at : ℕ) (ask : CycleAsk) (old : JournalTold D) (past new : PastTold D) (log : Log) (before after : ℕ) (result : Result Rewound CycleRefused) → journal_of past log ≡ old
@@ -606,67 +562,17 @@ tries_none kept at ask old new refusals.Disk fault refusal cause due is = subst 
 tries_none kept at ask old new refusals.NoMemory fault refusal cause due is = subst (TriesNone kept at ask old new) (sym is) (refusal, cause)
 
 module _ {D : Type 0} (told : D → DiskTold) where
-  -- a report of before
-  pub cycled_again : (at : ℕ) (ask : CycleAsk) (old : Lasting D) (report : Report) → report_of old.kept.reports ask.key ≡ Some report → Cycles told at ask old old report
-  cycled_again at ask old report had = subst (CyclesBy told at ask old old report) (sym (due_again old.kept at ask report had)) (refl, refl)
-
-  -- no memory for the copy of a report of before
-  pub out_of_memory_again : (at : ℕ) (ask : CycleAsk) (old : Lasting D) → IsSome (report_of old.kept.reports ask.key) → CyclesNone told at ask old old cycle_faults.NoMemory
-  out_of_memory_again at ask old had = by_report (report_of old.kept.reports ask.key) had
-    where
-      by_report : (found : Option Report) → IsSome found → RunsOutOfMemoryBy told old old (due_by found (due_anew old.kept at ask))
-      by_report None some = absurd (cc some)
-      by_report (Some report) some = refl
-
   -- a cycle that was sealed and put in place
   pub cycled : (at : ℕ) (ask : CycleAsk) (first new : Lasting D) (made : Rewound) (report : Report)
-      → report_of first.kept.reports ask.key ≡ None → CyclesAs told first at ask made → first.closed ≡ false → report ≡ made.report
+      → report_of first.kept.reports ask.key ≡ None → IsCycled first.kept at ask (ToldOr (HoldsTexts told first) (cycle_reads first.kept at ask)) made → first.closed ≡ false → report ≡ made.report
       → new.kept ≡ after_rewound first.kept ask.key true made → Seals told (Cycle first.kept.next at ask ∷ []) [] first new → Cycles told at ask first new report
-  cycled at ask first new made report anew red open_ report_is kept_is seals =
-      let is = red.is_made in
+  cycled at ask first new made report anew is open_ report_is kept_is seals =
       let leaves = made_whole first.kept at (repair_of first.kept at ask is.place) (ToldOr (HoldsTexts told first) (cycle_reads first.kept at ask)) made is.is_made in
       subst (CyclesBy told at ask first new report) (sym (due_new first.kept at ask anew ∙ is.due)) (
         open_,
         λ holds. (report_is ∙ (leaves holds).report, kept_is ∙ sym (after_is first.kept at ask is.place made (leaves holds))),
         seals,
       )
-
-  -- a cycle is due, and found no memory
-  pub out_of_memory : (at : ℕ) (ask : CycleAsk) (old new : Lasting D) (due : Cycled) → report_of old.kept.reports ask.key ≡ None → due_anew old.kept at ask ≡ Rewinds due → old.closed ≡ false
-      → SealsNothing told old new → ReadsWell told old new → CyclesNone told at ask old new cycle_faults.NoMemory
-  out_of_memory at ask old new due anew due_is open_ nothing well = subst (RunsOutOfMemoryBy told old new) (sym (due_new old.kept at ask anew ∙ due_is)) (open_, nothing, well)
-
-  -- a cycle that was not sealed
-  pub cycles_none : (at : ℕ) (ask : CycleAsk) (old new : Lasting D) (due : Cycled) (fault : SealFault) (out : CycleFault)
-      → report_of old.kept.reports ask.key ≡ None → due_anew old.kept at ask ≡ Rewinds due → old.closed ≡ false → IsCycleOutcomeOf fault out
-      → SealsNone told (Cycle old.kept.next at ask) old new fault → ReadsWell told old new → CyclesNone told at ask old new out
-  cycles_none at ask old new due log_faults.Disk out anew due_is open_ is none well =
-      subst (CyclesNone told at ask old new) (sym is) (open_, inl (due, due_new old.kept at ask anew ∙ due_is, none, well))
-  cycles_none at ask old new due log_faults.NoMemory out anew due_is open_ is none well =
-      subst (CyclesNone told at ask old new) (sym is) (out_of_memory at ask old new due anew due_is open_ none well)
-  cycles_none at ask old new due log_faults.Closed out anew due_is open_ is none well = absurd none
-
-  -- no cycle in memory
-  pub refused : (at : ℕ) (ask : CycleAsk) (old new : Lasting D) (why : CycleRefused) (out : CycleFault) → IsStill told old new → SealsNothing told old new
-      → ((IsRewinds (due_anew old.kept at ask) → ⊥) → new ≡ old) → report_of old.kept.reports ask.key ≡ None → old.closed ≡ false
-      → IsRefusalOf old.kept ask (due_anew old.kept at ask) why → RedoesCause {T = Rewound} (told old.disk) (told new.disk) (Err why) → (IsErrOf {T = Rewound} (Err why) refusals.Disk → IsTrue (cycle_reads old.kept at ask))
-      → IsTold why out → CyclesNone told at ask old new out
-  refused at ask old new (refusals.Point given) out still nothing untouched anew open_ refusal cause due is =
-      subst (CyclesNone told at ask old new) (sym is)
-      (open_, due_new old.kept at ask anew ∙ refusal.0, refusal.1, untouched (λ due. subst IsRewinds refusal.0 due))
-  refused at ask old new (refusals.Numbers next) out still nothing untouched anew open_ refusal cause due is =
-      subst (CyclesNone told at ask old new) (sym is)
-      (open_, due_new old.kept at ask anew ∙ refusal.0, refusal.1, untouched (λ due. subst IsRewinds refusal.0 due))
-  refused at ask old new refusals.Disk out still nothing untouched anew open_ refusal cause due is =
-      subst (CyclesNone told at ask old new) (sym is) (open_, inr (subst IsRewinds (sym (due_new old.kept at ask anew)) refusal, due refl, still, cause))
-  refused at ask old new refusals.NoMemory out still nothing untouched anew open_ refusal cause due is =
-      subst (CyclesNone told at ask old new) (sym is) (subst (RunsOutOfMemoryBy told old new) (sym (due_new old.kept at ask anew)) (by_due (due_anew old.kept at ask) refusal))
-    where
-      by_due : (due : Due) → IsRewinds due → RunsOutOfMemoryBy told old new due
-      by_due (Repeats report) wanted = absurd wanted
-      by_due NoPoint wanted = absurd wanted
-      by_due NoNumbers wanted = absurd wanted
-      by_due (Rewinds due) wanted = (open_, nothing, cause)
 
 -- ---- a cycle that is sealed
 
@@ -679,10 +585,10 @@ module _ {D : Type 0} (told : D → DiskTold) (disk : D) (before after : Held) (
   abbrev FirstTold : Type 0
   FirstTold = ToldOr (HoldsTexts told First) (cycle_reads before.kept at ask)
 
-  module _ (red : CyclesAs told First at ask made) (anew : report_of before.kept.reports ask.key ≡ None) (bytes_are : bytes ≡ record_bytes (Cycle before.kept.next at ask))
+  module _ (is : IsCycled before.kept at ask FirstTold made) (anew : report_of before.kept.reports ask.key ≡ None) (bytes_are : bytes ≡ record_bytes (Cycle before.kept.next at ask))
       (spelled : is_spelled (Cycle before.kept.next at ask) ≡ true) (known : are_known before.kept.house ask.inserts ≡ true) (open_ : old.closed ≡ false) where
-    due_record : IsRecordTo (Cycle before.kept.next at ask) bytes before.kept (after_cycle before.kept ask (cycled_at before.kept at ask red.is_made.place))
-    due_record = record_is before.kept at ask (cycled_at before.kept at ask red.is_made.place) bytes anew red.is_made.due bytes_are spelled known
+    due_record : IsRecordTo (Cycle before.kept.next at ask) bytes before.kept (after_cycle before.kept ask (cycled_at before.kept at ask is.place))
+    due_record = record_is before.kept at ask (cycled_at before.kept at ask is.place) bytes anew is.due bytes_are spelled known
 
     -- its record was sealed, and what it leaves was put in place
     pub cycle_sealed : SealsPayloads (bytes ∷ []) [] (told old.disk) (told new.disk) old.gate new.gate → new.closed ≡ false → (IsRun before.kept → IsSound before.kept) → SizesOf before.notes before.kept.texts (items_asked before.kept) → IsFit before.kept made
@@ -692,35 +598,20 @@ module _ {D : Type 0} (told : D → DiskTold) (disk : D) (before after : Held) (
         record_sealed told disk before after old new (Cycle before.kept.next at ask) bytes reads open_ (sym bytes_are) due_record.truth (λ none. let wrong : ◌≡◌ {A = Bool} true false = none in cc)
         (λ holds. due_record.can_stand ∙ ap Some (left_is holds)) (ap (λ (k : Kept). k.house) kept_is) seals still sound (λ holds. subst IsRun (left_is holds) refl) lies marked
       where
-        left_is : HoldsTexts told First → after_cycle before.kept ask (cycled_at before.kept at ask red.is_made.place) ≡ after.kept
+        left_is : HoldsTexts told First → after_cycle before.kept ask (cycled_at before.kept at ask is.place) ≡ after.kept
         left_is holds =
-            let is = red.is_made in
             after_is before.kept at ask is.place made (made_whole before.kept at (repair_of before.kept at ask is.place) FirstTold made is.is_made (inl holds)) ∙ sym kept_is
 
         marked : HoldsTexts told First → (payloads : List (List ℕ)) → LiesAt payloads old.gate (length bytes) bytes → IsRun before.kept → MarksLie payloads before.kept before.marks → MarksLie payloads after.kept after.marks
         marked holds payloads at_place runs all = subst (MarksLie payloads after.kept) (sym marks_are)
-            (made_marks payloads before.kept after.kept at ask FirstTold made before.marks (inl holds) red.is_made (ap (λ (k : Kept). k.base) kept_is) (ap (λ (k : Kept). k.timeline) kept_is) all)
+            (made_marks payloads before.kept after.kept at ask FirstTold made before.marks (inl holds) is (ap (λ (k : Kept). k.base) kept_is) (ap (λ (k : Kept). k.timeline) kept_is) all)
 
         lies : HoldsTexts told First → (payloads : List (List ℕ)) → LiesAt payloads old.gate (length bytes) bytes → TextsStored payloads before.notes before.kept → TextsStored payloads after.notes after.kept
         lies holds payloads at_place all =
             let where_ : Place = record { gate = old.gate; length = length bytes } in
             let whole = sound holds.texts.runs in
             put_lies before after at ask FirstTold made where_ bytes renotes.fresh (subst (λ (b : List ℕ). IsFresh before.kept.next at ask where_ b renotes.fresh) (sym bytes_are) renotes.is_fresh)
-            red.is_made fit.timeline.apart ask.key kept_is sizes whole.base whole.timeline.apart whole.below whole.undone renotes.renotes payloads at_place (inl holds) holds.texts.revs holds.texts.back all
-
-    -- it was not
-    pub cycle_unsealed : {X : Type 0} (fault : SealFault) (out : CycleFault) → SealsBytes {X = X} told bytes old new (Err fault) → (told old.disk).failed_reads ≡ (told disk).failed_reads → after.kept ≡ before.kept → after.notes ≡ before.notes → after.marks ≡ before.marks → IsCycleOutcomeOf fault out
-        → CyclesNone told at ask First (lasting after new) out
-    cycle_unsealed fault out sealed well kept notes marks is =
-        cycles_none told at ask First (lasting after new) (cycled_at before.kept at ask red.is_made.place) fault out anew red.is_made.due open_ is
-        (record_unsealed told disk before after old new (Cycle before.kept.next at ask) bytes reads open_ (after_cycle before.kept ask (cycled_at before.kept at ask red.is_made.place)) fault due_record sealed kept notes marks)
-        (sealed.reads ∙ well)
-
-  -- there was no memory for what is to be put in place
-  pub cycle_out_of_memory : CyclesAs told First at ask made → report_of before.kept.reports ask.key ≡ None → old.closed ≡ false → ((d : D) → (told d).honest → IsHonest (told d)) → (told old.disk).failed_reads ≡ (told disk).failed_reads → after.kept ≡ before.kept → after.notes ≡ before.notes → after.marks ≡ before.marks
-      → CyclesNone told at ask First (lasting after old) cycle_faults.NoMemory
-  cycle_out_of_memory red anew open_ truth well kept notes marks =
-      out_of_memory told at ask First (lasting after old) (cycled_at before.kept at ask red.is_made.place) anew red.is_made.due open_ (nothing_sealed told disk before after old old (Cycle before.kept.next at ask) bytes reads open_ truth kept notes marks) well
+            is fit.timeline.apart ask.key kept_is sizes whole.base whole.timeline.apart whole.below whole.undone renotes.renotes payloads at_place (inl holds) holds.texts.revs holds.texts.back all
 
 -- ---- a journal that was read
 
@@ -729,15 +620,6 @@ module _ {D : Type 0} (told : D → DiskTold) where
   pub read_from : (held : Held) (old new : JournalTold D) → IsOnlyRead told old new → lasting held (record new { disk = old.disk }) ≡ lasting held old
   read_from held old new still = λ j. record { kept = held.kept; notes = held.notes; marks = held.marks; room = held.room; disk = old.disk; gate = still.gate j; closed = still.closed j }
 
-  -- what is in memory was made from a first desk on
-  pub cycles_as : (held : Held) (old new : JournalTold D) (at : ℕ) (ask : CycleAsk) (made : Rewound) → IsCycled held.kept at ask (ToldOr (HoldsHeld (told old.disk) held) (cycle_reads held.kept at ask)) made
-      → CyclesAs told (lasting held (record new { disk = old.disk })) at ask made
-  cycles_as held old new at ask made is =
-      let some = cycle_reads held.kept at ask in
-      let First : Type 0 = ToldOr (HoldsTexts told (lasting held (record new { disk = old.disk }))) some in
-      let now = cycled_weaker held.kept at ask (ToldOr (HoldsHeld (told old.disk) held) some) First made (held_or told held (record new { disk = old.disk }) (some ≡ false)) is in
-      record { redoes = cycled_redoes held.kept at ask First made now; is_made = now }
-
   -- a trial
   pub cycle_tried : (held : Held) (journal : JournalTold D) (at : ℕ) (ask : CycleAsk) (made : Rewound) (report : Report) → IsCycled held.kept at ask (ToldOr (HoldsHeld (told journal.disk) held) (cycle_reads held.kept at ask)) made → report ≡ made.report
       → Tries held.kept at ask (HoldsTexts told (lasting held journal)) report
@@ -745,9 +627,6 @@ module _ {D : Type 0} (told : D → DiskTold) where
       let some = cycle_reads held.kept at ask in
       let redone = cycled_redoes held.kept at ask (ToldOr (HoldsHeld (told journal.disk) held) some) made is in
       (redone.0, redone.1, λ h. report_is ∙ (redone.2 (held_or told held journal (some ≡ false) h)).report)
-
-  pub made_unread : (kept : Kept) (at : ℕ) (ask : CycleAsk) (was : Type 0) (made : Rewound) → IsCycled kept at ask was made → IsCycled kept at ask ⊥ made
-  made_unread kept at ask was made is = cycled_weaker kept at ask was ⊥ made (λ never. absurd never) is
 
 -- ---- a record of a cycle that is read
 

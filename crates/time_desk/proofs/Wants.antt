@@ -1,5 +1,5 @@
--- Which writes of a cycle found memory.
-use Rattle.std.proofs.Common.{◌∙◌, ℕ, Result, Ok, Err, IfErr, OnOk, inl, inr, ⊎_elim, refl, subst, sym}
+-- Which writes of a cycle, or of a withdrawal, found memory.
+use Rattle.std.proofs.Common.{◌≡◌, ◌∙◌, ℕ, Result, Ok, Err, IfErr, OnOk, inl, inr, ⊎_elim, refl, subst, sym}
 use Rattle.undo_outside.specs.Calls.{RoseOnce}
 use Rattle.undo_outside.specs.Disk.{DiskTold, IsHonest}
 use Rattle.paradox.specs.declared.reports.Report.{Report}
@@ -10,17 +10,15 @@ use Rattle.seal_log.specs.Settled.{ReadsAlone}
 use Rattle.seal_log.proofs.Uses.{reads_joined, reads_none}
 use Rattle.time_desk.specs.declared.fault.CycleFault.{CycleFault}
 use Rattle.time_desk.specs.declared.fault.CycleFault.TheVariants.{Point, Numbers, Disk, NoMemory, Closed}
-use Rattle.time_desk.specs.Cycling.{CycleWants, IsCycleOutcomeOf}
+use Rattle.time_desk.specs.Cycling.{CycleWants, seal_told}
 
 module _ {D : Type 0} (told : D → DiskTold) where
-  -- of a cycle whose record was not sealed
-  pub sealing_wants : {X : Type 0} → ((d : D) → (told d).honest → IsHonest (told d)) → (old new : D) (fault : SealFault) (out : CycleFault) → IsCycleOutcomeOf fault out → SealWants {T = X} told old new (Err fault)
-      → CycleWants told old new out
-  sealing_wants truth old new log_faults.Disk out is wants = subst (CycleWants told old new) (sym is) (wants.disk refl)
-  sealing_wants truth old new log_faults.NoMemory out is wants =
-      subst (CycleWants told old new) (sym is)
-      (⊎_elim (λ same. inl (subst (λ (d : D). ReadsAlone (told old) (told d)) (sym same) (reads_none (told old) (truth old)))) (λ out_of_memory. inr out_of_memory) (wants.no_memory refl))
-  sealing_wants truth old new log_faults.Closed out is wants = absurd is
+  -- of a request whose record was not sealed
+  pub sealing_wants : {X : Type 0} → ((d : D) → (told d).honest → IsHonest (told d)) → (old new : D) (fault : SealFault) → (fault ≡ log_faults.Closed → ⊥) → SealWants {T = X} told old new (Err fault) → CycleWants told old new (seal_told fault)
+  sealing_wants truth old new log_faults.Disk never wants = wants.disk refl
+  sealing_wants truth old new log_faults.NoMemory never wants =
+      ⊎_elim (λ same. inl (subst (λ (d : D). ReadsAlone (told old) (told d)) (sym same) (reads_none (told old) (truth old)))) (λ out_of_memory. inr out_of_memory) (wants.no_memory refl)
+  sealing_wants truth old new log_faults.Closed never wants = absurd (never refl)
 
   -- where texts were read alone
   pub reading_wants : (old new : D) (fault : CycleFault) → ReadsAlone (told old) (told new) → CycleWants told old new fault

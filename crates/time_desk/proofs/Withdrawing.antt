@@ -55,9 +55,7 @@ use Rattle.desk_journal.proofs.Holding.{noted_later}
 use Rattle.desk_journal.proofs.Truth.{true_as}
 use Rattle.time_desk.specs.Cycling.{CanRework, DoesBy, IsFit, RedoesCause, Reworks, RunsOutOfMemoryBy, after_rewound, asked_then, most_begun, most_reworked}
 use Rattle.time_desk.specs.Serving.{unmarked}
-use Rattle.time_desk.specs.Withdrawing.{IsRetold, IsWithdrawalOutcomeOf, IsWithdrawn, WithdrawalWants, Withdraws, WithdrawsInSteps, WithdrawsNone}
-use Rattle.time_desk.specs.declared.fault.WithdrawFault.{WithdrawFault}
-use Rattle.time_desk.specs.declared.fault.WithdrawFault.TheVariants as faults
+use Rattle.time_desk.specs.Withdrawing.{IsWithdrawn, Withdraws, WithdrawsInSteps}
 use Rattle.time_desk.proofs.Bounding.{made_length}
 use Rattle.time_desk.proofs.Marking.{withdrawn_marks}
 use Rattle.time_desk.proofs.Repaired.{nothing_sealed, record_sealed, record_unsealed}
@@ -234,48 +232,6 @@ module _ {D : Type 0} (told : D → DiskTold) (held : Held) (at of : ℕ) (last 
   withdrawal_broken t old new same before after bodies_faults.Failed comes is done = withdrawal_failed t old new same before after comes is done
   withdrawal_broken t old new same before after bodies_faults.NoMemory comes is done = withdrawal_wanting t old new same before after comes is done
 
--- ---- where none is due
-
-module _ {D : Type 0} (told : D → DiskTold) (held : Held) (at of : ℕ) where
-  -- the cycle is not the last
-  pub withdrawal_unknown : (disk : D) (same : Type 0) (steps : ℕ) → undone_of held.kept of ≡ None → same → WithdrawsInSteps told held at of disk disk same steps steps (Err (refusals.Point of))
-  withdrawal_unknown disk same steps none untouched = record {
-    alone = record { withdrawn = tt; fit = tt; refused = (ap (withdraw_due_at held.kept at) none, refl); cause = refl; due = λ failed. absurd (cc failed) };
-    untouched = λ undue. untouched;
-    few = λ other other_is h. tt;
-    most = λ other other_is h. omega arith;
-    any = omega arith;
-    steps = tt;
-  }
-
-  -- or no numbers are left, or no memory was found
-  pub withdrawal_undue : (last : UndoneBehind) (disk : D) (same : Type 0) (steps : ℕ) (refused : CycleRefused) → undone_of held.kept of ≡ Some last
-      → IsRefusalBy (unmarked held.kept) last.cycle (withdraw_due_at (unmarked held.kept) at (Some last)) refused → (refused ≡ refusals.Disk → ⊥) → same
-      → WithdrawsInSteps told held at of disk disk same steps steps (Err refused)
-  withdrawal_undue last disk same steps refused is_last refusal unread untouched = record {
-    alone = record { withdrawn = tt; fit = tt; refused = subst (λ (d : Due). IsRefusalBy held.kept of d refused) (sym (ap (withdraw_due_at held.kept at) is_last)) (of_number refused refusal); cause = none_read refused unread; due = λ failed. absurd (unread (one_why refused refusals.Disk failed)) };
-    untouched = λ undue. untouched;
-    few = λ other other_is h. tt;
-    most = λ other other_is h. omega arith;
-    any = omega arith;
-    steps = tt;
-  }
-    where
-      of_number : (r : CycleRefused) → IsRefusalBy (unmarked held.kept) last.cycle (withdraw_due_at (unmarked held.kept) at (Some last)) r → IsRefusalBy held.kept of (withdraw_due_at held.kept at (Some last)) r
-      of_number (refusals.Point given) is = (is.0, is.1 ∙ number_is held.kept of last is_last)
-      of_number (refusals.Numbers next) is = is
-      of_number refusals.Disk is = is
-      of_number refusals.NoMemory is = is
-
-      one_why : (a b : CycleRefused) → ◌≡◌ {A = Result Rewound CycleRefused} (Err a) (Err b) → a ≡ b
-      one_why a b e = cc
-
-      none_read : (r : CycleRefused) → (r ≡ refusals.Disk → ⊥) → RedoesCause {T = Rewound} (told disk) (told disk) (Err r)
-      none_read (refusals.Point given) never = refl
-      none_read (refusals.Numbers next) never = refl
-      none_read refusals.Disk never = absurd (never refl)
-      none_read refusals.NoMemory never = refl
-
 -- the same of a journal, before its gate
 pub withdrawal_through : {D : Type 0} (told : D → DiskTold) (held : Held) (at of : ℕ) (old : JournalTold D) (past new : PastTold D) (log : Log) (before after : ℕ) (result : Result Rewound CycleRefused) → journal_of past log ≡ old
     → WithdrawsInSteps told held at of past.disk new.disk (new ≡ past) before after result → WithdrawsInSteps told held at of old.disk new.disk (journal_of new log ≡ old) before after result
@@ -308,10 +264,6 @@ held_withdrawn kept at of told made is = withdrawn_weaker kept at of (ToldOr tol
 pub withdraw_new : (kept : Kept) (at : ℕ) (key : List ℕ) (of : ℕ) → report_of kept.reports key ≡ None → withdraw_due kept at key of ≡ withdraw_due_anew kept at of
 withdraw_new kept at key of new = ap (λ (r : Option Report). due_by r (withdraw_due_anew kept at of)) new
 
--- under a key that a cycle or a withdrawal had
-withdraw_again : (kept : Kept) (at : ℕ) (key : List ℕ) (of : ℕ) (report : Report) → report_of kept.reports key ≡ Some report → withdraw_due kept at key of ≡ Repeats report
-withdraw_again kept at key of report had = ap (λ (r : Option Report). due_by r (withdraw_due_anew kept at of)) had
-
 -- what the record comes to, where it has a spelling and the next number
 withdraw_record : (kept : Kept) (at : ℕ) (key : List ℕ) (of : ℕ) → is_spelled (Withdraw kept.next at key of) ≡ true
     → after_record kept (Withdraw kept.next at key of) ≡ after_due (after_withdrawal kept key) (withdraw_due kept at key of)
@@ -334,18 +286,6 @@ withdrawal_follows kept number at key of spelled next new =
 -- ---- answers
 
 module _ {D : Type 0} (told : D → DiskTold) where
-  -- a report of before
-  pub withdrawn_again : (at : ℕ) (key : List ℕ) (of : ℕ) (old : Lasting D) (report : Report) → report_of old.kept.reports key ≡ Some report → Withdraws told at key of old old report
-  withdrawn_again at key of old report had = subst (DoesBy told (Withdraw old.kept.next at key of) (withdrawal_reads old.kept of) (after_withdrawal old.kept key) old old report) (sym (withdraw_again old.kept at key of report had)) (refl, refl)
-
-  -- no memory for the copy of a report of before
-  pub out_of_memory_again : (at : ℕ) (key : List ℕ) (of : ℕ) (old : Lasting D) → IsSome (report_of old.kept.reports key) → WithdrawsNone told at key of old old faults.NoMemory
-  out_of_memory_again at key of old had = by_report (report_of old.kept.reports key) had
-    where
-      by_report : (found : Option Report) → IsSome found → RunsOutOfMemoryBy told old old (due_by found (withdraw_due_anew old.kept at of))
-      by_report None some = absurd (cc some)
-      by_report (Some report) some = refl
-
   -- a withdrawal that was sealed and put in place
   pub withdrawn : (at : ℕ) (key : List ℕ) (of : ℕ) (first new : Lasting D) (made : Rewound) (report : Report)
       → report_of first.kept.reports key ≡ None → IsWithdrawn first.kept at of (ToldOr (HoldsTexts told first) (withdrawal_reads first.kept of)) made → first.closed ≡ false → report ≡ made.report
@@ -357,43 +297,6 @@ module _ {D : Type 0} (told : D → DiskTold) where
         λ holds. (report_is ∙ (leaves holds).report, kept_is ∙ sym (after_withdrawal_is first.kept key (withdrawn_at first.kept at is.last) made (leaves holds))),
         seals,
       )
-
-  -- one is due, and found no memory
-  out_of_memory : (at : ℕ) (key : List ℕ) (of : ℕ) (old new : Lasting D) (due : Cycled) → report_of old.kept.reports key ≡ None → withdraw_due_anew old.kept at of ≡ Rewinds due → old.closed ≡ false
-      → SealsNothing told old new → ReadsWell told old new → WithdrawsNone told at key of old new faults.NoMemory
-  out_of_memory at key of old new due anew due_is open_ nothing well = subst (RunsOutOfMemoryBy told old new) (sym (withdraw_new old.kept at key of anew ∙ due_is)) (open_, nothing, well)
-
-  -- one that was not sealed
-  withdraws_none : (at : ℕ) (key : List ℕ) (of : ℕ) (old new : Lasting D) (due : Cycled) (fault : SealFault) (out : WithdrawFault)
-      → report_of old.kept.reports key ≡ None → withdraw_due_anew old.kept at of ≡ Rewinds due → old.closed ≡ false → IsWithdrawalOutcomeOf fault out
-      → SealsNone told (Withdraw old.kept.next at key of) old new fault → ReadsWell told old new → WithdrawsNone told at key of old new out
-  withdraws_none at key of old new due log_faults.Disk out anew due_is open_ is none well =
-      subst (WithdrawsNone told at key of old new) (sym is) (open_, inl (due, withdraw_new old.kept at key of anew ∙ due_is, none, well))
-  withdraws_none at key of old new due log_faults.NoMemory out anew due_is open_ is none well =
-      subst (WithdrawsNone told at key of old new) (sym is) (out_of_memory at key of old new due anew due_is open_ none well)
-  withdraws_none at key of old new due log_faults.Closed out anew due_is open_ is none well = absurd none
-
-  -- none in memory
-  pub refused : (at : ℕ) (key : List ℕ) (of : ℕ) (old new : Lasting D) (why : CycleRefused) (out : WithdrawFault) → IsStill told old new → SealsNothing told old new
-      → ((IsRewinds (withdraw_due_anew old.kept at of) → ⊥) → new ≡ old) → report_of old.kept.reports key ≡ None → old.closed ≡ false
-      → IsRefusalBy old.kept of (withdraw_due_anew old.kept at of) why → RedoesCause {T = Rewound} (told old.disk) (told new.disk) (Err why)
-      → (IsErrOf {T = Rewound} (Err why) refusals.Disk → withdrawal_reads old.kept of ≡ true) → IsRetold why out → WithdrawsNone told at key of old new out
-  refused at key of old new (refusals.Point given) out still nothing untouched anew open_ refusal cause due is =
-      subst (WithdrawsNone told at key of old new) (sym is)
-      (open_, withdraw_new old.kept at key of anew ∙ refusal.0, refusal.1, untouched (λ due. subst IsRewinds refusal.0 due))
-  refused at key of old new (refusals.Numbers next) out still nothing untouched anew open_ refusal cause due is =
-      subst (WithdrawsNone told at key of old new) (sym is)
-      (open_, withdraw_new old.kept at key of anew ∙ refusal.0, refusal.1, untouched (λ due. subst IsRewinds refusal.0 due))
-  refused at key of old new refusals.Disk out still nothing untouched anew open_ refusal cause due is =
-      subst (WithdrawsNone told at key of old new) (sym is) (open_, inr (subst IsRewinds (sym (withdraw_new old.kept at key of anew)) refusal, due refl, still, cause))
-  refused at key of old new refusals.NoMemory out still nothing untouched anew open_ refusal cause due is =
-      subst (WithdrawsNone told at key of old new) (sym is) (subst (RunsOutOfMemoryBy told old new) (sym (withdraw_new old.kept at key of anew)) (by_due (withdraw_due_anew old.kept at of) refusal))
-    where
-      by_due : (due : Due) → IsRewinds due → RunsOutOfMemoryBy told old new due
-      by_due (Repeats report) wanted = absurd wanted
-      by_due NoPoint wanted = absurd wanted
-      by_due NoNumbers wanted = absurd wanted
-      by_due (Rewinds due) wanted = (open_, nothing, cause)
 
 -- ---- a withdrawal that is sealed
 
@@ -407,8 +310,8 @@ module _ {D : Type 0} (told : D → DiskTold) (disk : D) (before after : Held) (
 
   module _ (is : IsWithdrawn before.kept at of Told made) (anew : report_of before.kept.reports key ≡ None) (bytes_are : bytes ≡ record_bytes (Withdraw before.kept.next at key of))
       (spelled : is_spelled (Withdraw before.kept.next at key of) ≡ true) where
-    due_record : IsRecordTo (Withdraw before.kept.next at key of) bytes before.kept (after_withdrawal before.kept key (withdrawn_at before.kept at is.last))
-    due_record = record {
+    pub withdrawal_record : IsRecordTo (Withdraw before.kept.next at key of) bytes before.kept (after_withdrawal before.kept key (withdrawn_at before.kept at is.last))
+    withdrawal_record = record {
       bytes_are = sym bytes_are;
       can_stand = withdraw_record before.kept at key of spelled ∙ ap (after_due (after_withdrawal before.kept key)) (withdraw_new before.kept at key of anew ∙ is.due);
       truth = true_as before.kept (Withdraw before.kept.next at key of) refl;
@@ -420,8 +323,8 @@ module _ {D : Type 0} (told : D → DiskTold) (disk : D) (before after : Held) (
         → NotesNone (record { gate = old.gate; length = length bytes }) before.notes before.kept.texts (asked_then before.kept false made) after.notes
         → Seals told (Withdraw before.kept.next at key of ∷ []) [] First (lasting after new)
     withdrawal_sealed seals still sound fit kept_is marks_are notes =
-        record_sealed told disk before after old new (Withdraw before.kept.next at key of) bytes reads open_ (sym bytes_are) due_record.truth (λ none. let wrong : ◌≡◌ {A = Bool} true false = none in cc)
-        (λ holds. due_record.can_stand ∙ ap Some (left_is holds)) (ap (λ (k : Kept). k.house) kept_is) seals still sound (λ holds. subst IsRun (left_is holds) refl) lies marked
+        record_sealed told disk before after old new (Withdraw before.kept.next at key of) bytes reads open_ (sym bytes_are) withdrawal_record.truth (λ none. let wrong : ◌≡◌ {A = Bool} true false = none in cc)
+        (λ holds. withdrawal_record.can_stand ∙ ap Some (left_is holds)) (ap (λ (k : Kept). k.house) kept_is) seals still sound (λ holds. subst IsRun (left_is holds) refl) lies marked
       where
         left_is : HoldsTexts told First → after_withdrawal before.kept key (withdrawn_at before.kept at is.last) ≡ after.kept
         left_is holds =
@@ -435,21 +338,6 @@ module _ {D : Type 0} (told : D → DiskTold) (disk : D) (before after : Held) (
         lies holds payloads at_place all =
             withdrawal_lies before after at is.last (undone_is before.kept of is.last is.is_last) Told made is.is_made fit.timeline.apart (sound holds.texts.runs).base notes.0 notes.3 key kept_is payloads (inl holds) all
 
-    -- it was not
-    pub withdrawal_unsealed : {X : Type 0} (fault : SealFault) (out : WithdrawFault) → SealsBytes {X = X} told bytes old new (Err fault) → (told old.disk).failed_reads ≡ (told disk).failed_reads → after.kept ≡ before.kept → after.notes ≡ before.notes → after.marks ≡ before.marks
-        → IsWithdrawalOutcomeOf fault out → WithdrawsNone told at key of First (lasting after new) out
-    withdrawal_unsealed fault out sealed well kept notes marks outcome =
-        withdraws_none told at key of First (lasting after new) (withdrawn_at before.kept at is.last) fault out anew is.due open_ outcome
-        (record_unsealed told disk before after old new (Withdraw before.kept.next at key of) bytes reads open_ (after_withdrawal before.kept key (withdrawn_at before.kept at is.last)) fault due_record sealed kept notes marks)
-        (sealed.reads ∙ well)
-
-  -- there was no memory for what is to be put in place
-  pub withdrawal_out_of_memory : IsWithdrawn before.kept at of Told made → report_of before.kept.reports key ≡ None → ((d : D) → (told d).honest → IsHonest (told d)) → (told old.disk).failed_reads ≡ (told disk).failed_reads
-      → after.kept ≡ before.kept → after.notes ≡ before.notes → after.marks ≡ before.marks → WithdrawsNone told at key of First (lasting after old) faults.NoMemory
-  withdrawal_out_of_memory is anew truth well kept notes marks =
-      out_of_memory told at key of First (lasting after old) (withdrawn_at before.kept at is.last) anew is.due open_
-      (nothing_sealed told disk before after old old (Withdraw before.kept.next at key of) bytes reads open_ truth kept notes marks) well
-
 -- the notes that it leaves lie before the gate behind it
 pub withdrawal_notes : (gate next : ℕ) (before after : Held) (at of : ℕ) (honest : Type 0) (made : Rewound) (place : Place) → gate ≤ next → IsWithdrawn before.kept at of honest made → IsFit before.kept made
     → HasBase before.kept → (key : List ℕ) → after.kept ≡ after_rewound before.kept key false made → NotesNone place before.notes before.kept.texts (asked_then before.kept false made) after.notes
@@ -458,44 +346,3 @@ pub withdrawal_notes : (gate next : ℕ) (before after : Held) (at of : ℕ) (ho
 withdrawal_notes gate next before after at of honest made place later is fit base key put notes sizes noted =
     withdrawal_noted before after at is.last (undone_is before.kept of is.last is.is_last) honest made is.is_made fit.timeline.apart base notes.0 notes.3 key put next sizes
     (noted_later gate next before.notes before.kept later noted)
-
--- ---- which writes found memory
-
-module _ {D : Type 0} (told : D → DiskTold) where
-  -- of one whose record was not sealed
-  pub sealing_wants : {X : Type 0} → ((d : D) → (told d).honest → IsHonest (told d)) → (old new : D) (fault : SealFault) (out : WithdrawFault) → IsWithdrawalOutcomeOf fault out → SealWants {T = X} told old new (Err fault)
-      → WithdrawalWants told old new out
-  sealing_wants truth old new log_faults.Disk out is wants = subst (WithdrawalWants told old new) (sym is) (wants.disk refl)
-  sealing_wants truth old new log_faults.NoMemory out is wants =
-      subst (WithdrawalWants told old new) (sym is)
-      (⊎_elim (λ same. inl (subst (λ (d : D). ReadsAlone (told old) (told d)) (sym same) (reads_none (told old) (truth old)))) (λ out_of_memory. inr out_of_memory) (wants.no_memory refl))
-  sealing_wants truth old new log_faults.Closed out is wants = absurd is
-
-  -- where texts were read alone
-  pub reading_wants : (old new : D) (fault : WithdrawFault) → ReadsAlone (told old) (told new) → WithdrawalWants told old new fault
-  reading_wants old new (faults.Cycle given) reads = reads.finds_memory
-  reading_wants old new (faults.Numbers next) reads = reads.finds_memory
-  reading_wants old new faults.Disk reads = reads.finds_memory
-  reading_wants old new faults.NoMemory reads = inl reads
-  reading_wants old new faults.Closed reads = reads.finds_memory
-
-  -- behind texts that were read
-  pub wants_later : (old mid new : D) (result : Result Report WithdrawFault) → ReadsAlone (told old) (told mid) → IfErr result (λ fault. WithdrawalWants told mid new fault) → IfErr result (λ fault. WithdrawalWants told old new fault)
-  wants_later old mid new (Ok report) reads wants = tt
-  wants_later old mid new (Err (faults.Cycle given)) reads finds_memory = finds_memory ∙ reads.finds_memory
-  wants_later old mid new (Err (faults.Numbers next)) reads finds_memory = finds_memory ∙ reads.finds_memory
-  wants_later old mid new (Err faults.Disk) reads finds_memory = finds_memory ∙ reads.finds_memory
-  wants_later old mid new (Err faults.NoMemory) reads (inl more) = inl (reads_joined (told old) (told mid) (told new) reads more)
-  wants_later old mid new (Err faults.NoMemory) reads (inr (rose, last)) = inr (subst (λ (n : ℕ). RoseOnce n (told new).out_of_memory) reads.finds_memory rose, last)
-  wants_later old mid new (Err faults.Closed) reads finds_memory = finds_memory ∙ reads.finds_memory
-
-  pub fed_later : (old mid new : D) (result : Result Report WithdrawFault) → ReadsAlone (told old) (told mid) → OnOk result (FindsMemory (told mid) (told new)) → OnOk result (FindsMemory (told old) (told new))
-  fed_later old mid new (Ok report) reads finds_memory = finds_memory ∙ reads.finds_memory
-  fed_later old mid new (Err fault) reads finds_memory = tt
-
-  -- what was in memory is what was made from a first desk on
-  pub withdrawn_as : (held : Held) (old new : JournalTold D) (at of : ℕ) (made : Rewound) → IsWithdrawn held.kept at of (ToldOr (HoldsHeld (told old.disk) held) (withdrawal_reads held.kept of)) made
-      → IsWithdrawn held.kept at of (ToldOr (HoldsTexts told (lasting held (record new { disk = old.disk }))) (withdrawal_reads held.kept of)) made
-  withdrawn_as held old new at of made is =
-      let some = withdrawal_reads held.kept of in
-      withdrawn_weaker held.kept at of (ToldOr (HoldsHeld (told old.disk) held) some) (ToldOr (HoldsTexts told (lasting held (record new { disk = old.disk }))) some) made (held_or told held (record new { disk = old.disk }) (some ≡ false)) is

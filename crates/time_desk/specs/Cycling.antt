@@ -173,11 +173,11 @@ IsTold (refusals.Numbers next) fault = fault ≡ Numbers next
 IsTold refusals.NoMemory fault = fault ≡ NoMemory
 IsTold refusals.Disk fault = fault ≡ Disk
 
--- a fault of sealing, as a fault of a cycle
-abbrev pub IsCycleOutcomeOf : SealFault → CycleFault → Type 0
-IsCycleOutcomeOf log_faults.Disk fault = fault ≡ Disk
-IsCycleOutcomeOf log_faults.NoMemory fault = fault ≡ NoMemory
-IsCycleOutcomeOf log_faults.Closed fault = ⊥
+-- a fault of sealing, as it is told
+abbrev pub seal_told : SealFault → CycleFault
+seal_told log_faults.Disk = Disk
+seal_told log_faults.NoMemory = NoMemory
+seal_told log_faults.Closed = Closed
 
 -- ---- a trial
 
@@ -210,11 +210,6 @@ module _ {D : Type 0} (told : D → DiskTold) where
   abbrev pub CyclesBy : ℕ → CycleAsk → Lasting D → Lasting D → Report → Due → Type 0
   CyclesBy at ask old new report due = DoesBy (Cycle old.kept.next at ask) (cycle_reads old.kept at ask) (after_cycle old.kept ask) old new report due
 
-  -- what is left in memory was made of the items as they were read from a first desk on
-  pub record CyclesAs (first : Lasting D) (at : ℕ) (ask : CycleAsk) (made : Rewound) : Type 0 where
-    pub redoes : Redoes first.kept at ask (ToldOr (HoldsTexts told first) (cycle_reads first.kept at ask)) made
-    pub is_made : IsCycled first.kept at ask (ToldOr (HoldsTexts told first) (cycle_reads first.kept at ask)) made
-
   -- a request at a moment that is answered with a report
   abbrev pub Cycles : ℕ → CycleAsk → Lasting D → Lasting D → Report → Type 0
   Cycles at ask old new report = CyclesBy at ask old new report (cycle_due old.kept at ask)
@@ -231,25 +226,22 @@ module _ {D : Type 0} (told : D → DiskTold) where
   abbrev pub FailsToSeal : JournalRecord → Lasting D → Lasting D → Due → Type 0
   FailsToSeal what old new asked = (due : Cycled) × (asked ≡ Rewinds due) × Seals told [] (what ∷ []) old new × ReadsWell told old new
 
-  abbrev pub FailsToCycle : ℕ → CycleAsk → Lasting D → Lasting D → Type 0
-  FailsToCycle at ask old new = FailsToSeal (Cycle old.kept.next at ask) old new (cycle_due old.kept at ask)
-
   -- one is due, something is to be read for it, and a read failed: nothing was sealed, and nothing changed
   abbrev pub FailsToReadFor : Bool → Lasting D → Lasting D → Due → Type 0
   FailsToReadFor some old new asked = IsRewinds asked × IsTrue some × IsStill told old new × ReadFailed (told old.disk) (told new.disk)
 
-  abbrev pub FailsToRead : ℕ → CycleAsk → Lasting D → Lasting D → Type 0
-  FailsToRead at ask old new = FailsToReadFor (cycle_reads old.kept at ask) old new (cycle_due old.kept at ask)
+  -- Why a request has no report, by the key and the number that it names, and by what is due to it: what it goes back to or the numbers
+  -- are missing, exactly where that is due. Or the record was not sealed, and the desk is closed, or a text was not read, and it stays
+  -- open. Or no memory was found; or the desk was closed, and no earlier request had the key.
+  abbrev pub NoneBy : JournalRecord → Bool → List ℕ → ℕ → Lasting D → Lasting D → Due → CycleFault → Type 0
+  NoneBy what some key wanted old new due (Point given) = (old.closed ≡ false) × (due ≡ NoPoint) × (given ≡ wanted) × (new ≡ old)
+  NoneBy what some key wanted old new due (Numbers next) = (old.closed ≡ false) × (due ≡ NoNumbers) × (next ≡ old.kept.next) × (new ≡ old)
+  NoneBy what some key wanted old new due Disk = (old.closed ≡ false) × (FailsToSeal what old new due ⊎ FailsToReadFor some old new due)
+  NoneBy what some key wanted old new due NoMemory = RunsOutOfMemoryBy old new due
+  NoneBy what some key wanted old new due Closed = IsTrue old.closed × (report_of old.kept.reports key ≡ None) × (new ≡ old)
 
-  -- Why a request has no report: the point or the numbers are missing, exactly where that is due. Or the record was not sealed,
-  -- and the desk is closed, or a text was not read, and it stays open. Or no memory was found; or the desk was closed, and no
-  -- cycle had the key.
   abbrev pub CyclesNone : ℕ → CycleAsk → Lasting D → Lasting D → CycleFault → Type 0
-  CyclesNone at ask old new (Point given) = (old.closed ≡ false) × (cycle_due old.kept at ask ≡ NoPoint) × (given ≡ ask.point) × (new ≡ old)
-  CyclesNone at ask old new (Numbers next) = (old.closed ≡ false) × (cycle_due old.kept at ask ≡ NoNumbers) × (next ≡ old.kept.next) × (new ≡ old)
-  CyclesNone at ask old new Disk = (old.closed ≡ false) × (FailsToCycle at ask old new ⊎ FailsToRead at ask old new)
-  CyclesNone at ask old new NoMemory = RunsOutOfMemoryBy old new (cycle_due old.kept at ask)
-  CyclesNone at ask old new Closed = IsTrue old.closed × (report_of old.kept.reports ask.key ≡ None) × (new ≡ old)
+  CyclesNone at ask old new fault = NoneBy (Cycle old.kept.next at ask) (cycle_reads old.kept at ask) ask.key ask.point old new (cycle_due old.kept at ask) fault
 
   -- Which writes found memory where a request has no report: all. But for want of memory none was made, or the last one that was
   -- made may be the one that found none.

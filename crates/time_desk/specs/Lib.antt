@@ -11,3 +11,4 @@ pub mod Cutting
 pub mod Unfiltered
 pub mod Fronts
 pub mod Heads
+pub mod Requests

@@ -20,10 +20,12 @@ use Rattle.seal_log.specs.Settled.{ReadsAlone}
 use Rattle.mail_desk.specs.Held.{Held}
 use Rattle.desk_journal.specs.Lasting.{Lasting}
 use Rattle.desk_journal.specs.Telling.{HoldsHeld}
+use Rattle.time_desk.specs.declared.fault.CycleFault.{CycleFault}
+use Rattle.time_desk.specs.declared.fault.CycleFault.TheVariants as faults
 use Rattle.time_desk.specs.declared.fault.WithdrawFault.{WithdrawFault}
 use Rattle.time_desk.specs.declared.fault.WithdrawFault.TheVariants.{Cycle, Numbers, Disk, NoMemory, Closed}
 use Rattle.time_desk.specs.Replaying.{ToldOr, withdrawal_reads}
-use Rattle.time_desk.specs.Cycling.{DoesBy, FailsToReadFor, FailsToSeal, IsFit, RedoesCause, RunsOutOfMemoryBy, most_begun, most_reworked}
+use Rattle.time_desk.specs.Cycling.{CycleWants, DoesBy, IsFit, NoneBy, RedoesCause, most_begun, most_reworked}
 
 -- ---- a withdrawal in memory
 
@@ -51,18 +53,13 @@ pub record WithdrawsInSteps {D : Type 0} (told : D → DiskTold) (held : Held) (
   pub any : OnErr result (after ≤ before + length (items_asked held.kept) + length held.kept.house.accounts)
   pub steps : IfOk result (λ made. after ≤ before + length (items_left held.kept.timeline made))
 
--- a refusal in memory, as it is told
-abbrev pub IsRetold : CycleRefused → WithdrawFault → Type 0
-IsRetold (refusals.Point given) fault = fault ≡ Cycle given
-IsRetold (refusals.Numbers next) fault = fault ≡ Numbers next
-IsRetold refusals.NoMemory fault = fault ≡ NoMemory
-IsRetold refusals.Disk fault = fault ≡ Disk
-
--- a fault of sealing, as it is told
-abbrev pub IsWithdrawalOutcomeOf : SealFault → WithdrawFault → Type 0
-IsWithdrawalOutcomeOf log_faults.Disk fault = fault ≡ Disk
-IsWithdrawalOutcomeOf log_faults.NoMemory fault = fault ≡ NoMemory
-IsWithdrawalOutcomeOf log_faults.Closed fault = ⊥
+-- a fault as it is told of a cycle: of a point, where it is of the cycle that it goes back to
+abbrev pub of_cycle : WithdrawFault → CycleFault
+of_cycle (Cycle given) = faults.Point given
+of_cycle (Numbers next) = faults.Numbers next
+of_cycle Disk = faults.Disk
+of_cycle NoMemory = faults.NoMemory
+of_cycle Closed = faults.Closed
 
 -- ---- a withdrawal
 
@@ -74,17 +71,9 @@ module _ {D : Type 0} (told : D → DiskTold) where
 
   -- why a request has no report: as of a cycle
   abbrev pub WithdrawsNone : ℕ → List ℕ → ℕ → Lasting D → Lasting D → WithdrawFault → Type 0
-  WithdrawsNone at key of old new (Cycle given) = (old.closed ≡ false) × (withdraw_due old.kept at key of ≡ NoPoint) × (given ≡ of) × (new ≡ old)
-  WithdrawsNone at key of old new (Numbers next) = (old.closed ≡ false) × (withdraw_due old.kept at key of ≡ NoNumbers) × (next ≡ old.kept.next) × (new ≡ old)
-  WithdrawsNone at key of old new Disk = (old.closed ≡ false)
-      × (FailsToSeal told (Withdraw old.kept.next at key of) old new (withdraw_due old.kept at key of) ⊎ FailsToReadFor told (withdrawal_reads old.kept of) old new (withdraw_due old.kept at key of))
-  WithdrawsNone at key of old new NoMemory = RunsOutOfMemoryBy told old new (withdraw_due old.kept at key of)
-  WithdrawsNone at key of old new Closed = IsTrue old.closed × (report_of old.kept.reports key ≡ None) × (new ≡ old)
+  WithdrawsNone at key of old new fault =
+      NoneBy told (Withdraw old.kept.next at key of) (withdrawal_reads old.kept of) key of old new (withdraw_due old.kept at key of) (of_cycle fault)
 
   -- which writes found memory where a request has no report
   abbrev pub WithdrawalWants : D → D → WithdrawFault → Type 0
-  WithdrawalWants old new (Cycle given) = FindsMemory (told old) (told new)
-  WithdrawalWants old new (Numbers next) = FindsMemory (told old) (told new)
-  WithdrawalWants old new Disk = FindsMemory (told old) (told new)
-  WithdrawalWants old new NoMemory = ReadsAlone (told old) (told new) ⊎ WriteOutOfMemory (told old) (told new)
-  WithdrawalWants old new Closed = FindsMemory (told old) (told new)
+  WithdrawalWants old new fault = CycleWants told old new (of_cycle fault)

@@ -1,5 +1,7 @@
 //! Why a desk was not started, and why a cycle or a withdrawal was not done.
-use seal_log::ReadFault;
+use mail_cycle::CycleRefused;
+use seal_log::{ReadFault, SealFault};
+use undo_base::NoMemory;
 
 /// Why a desk was not started.
 #[derive(Clone, Copy, Debug, PartialEq, Eq)]
@@ -56,6 +58,68 @@ impl From<ReadFault> for StartFault {
         match fault {
             ReadFault::Disk => StartFault::Disk,
             ReadFault::NoMemory => StartFault::NoMemory,
+        }
+    }
+}
+
+/// No memory was found.
+impl From<NoMemory> for CycleFault {
+    ghost use Rattle.std.specs.Prelude.{◌≡◌};
+    ghost use Rattle.time_desk.specs.declared.fault.CycleFault.TheVariants.{NoMemory as no_memory};
+
+    ghost from_gives = { λ _ told. told ≡ no_memory };
+
+    fn from(_: NoMemory) -> Self {
+        CycleFault::NoMemory
+    }
+}
+
+/// A repair was not worked out, or none is due.
+impl From<CycleRefused> for CycleFault {
+    ghost use Rattle.time_desk.specs.Cycling.{IsTold};
+
+    ghost from_gives = { λ refused told. IsTold refused told };
+
+    fn from(refused: CycleRefused) -> Self {
+        match refused {
+            CycleRefused::Point { given } => CycleFault::Point { given },
+            CycleRefused::Numbers { next } => CycleFault::Numbers { next },
+            CycleRefused::Disk => CycleFault::Disk,
+            CycleRefused::NoMemory => CycleFault::NoMemory,
+        }
+    }
+}
+
+/// A record was not sealed.
+impl From<SealFault> for CycleFault {
+    ghost use Rattle.std.specs.Prelude.{◌≡◌};
+    ghost use Rattle.time_desk.specs.Cycling.{seal_told};
+
+    ghost from_gives = { λ fault told. told ≡ seal_told fault };
+
+    fn from(fault: SealFault) -> Self {
+        match fault {
+            SealFault::Disk => CycleFault::Disk,
+            SealFault::NoMemory => CycleFault::NoMemory,
+            SealFault::Closed => CycleFault::Closed,
+        }
+    }
+}
+
+/// What is said of a cycle, of a withdrawal: it goes back to a cycle in place of a point.
+impl From<CycleFault> for WithdrawFault {
+    ghost use Rattle.std.specs.Prelude.{◌≡◌};
+    ghost use Rattle.time_desk.specs.Withdrawing.{of_cycle};
+
+    ghost from_gives = { λ fault told. fault ≡ of_cycle told };
+
+    fn from(fault: CycleFault) -> Self {
+        match fault {
+            CycleFault::Point { given } => WithdrawFault::Cycle { given },
+            CycleFault::Numbers { next } => WithdrawFault::Numbers { next },
+            CycleFault::Disk => WithdrawFault::Disk,
+            CycleFault::NoMemory => WithdrawFault::NoMemory,
+            CycleFault::Closed => WithdrawFault::Closed,
         }
     }
 }

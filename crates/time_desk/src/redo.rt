@@ -8,21 +8,21 @@
 //! by nobody.
 //!
 //! Opening performs a Cycle record again with the snapshots that it has read so far, as the cycle did.
-ghost use Rattle.std.specs.Prelude.{◌≡◌, ◌<◌, ◌≤◌, ℕ, Some, false, IsErrOf, IsTrue, IfOk, IfErr};
-ghost use Rattle.store_kept.specs.Kept.{undone_of};
-ghost use Rattle.repair_desk.specs.Repairs.{are_known};
+ghost use Rattle.std.specs.Prelude.{◌≡◌, ◌<◌, ◌≤◌, false, IsErrOf, IsTrue, IfOk, IfErr};
+ghost use Rattle.mail_cycle.specs.Refusing.{IsRefusalBy};
 ghost use Rattle.mail_cycle.specs.Tasks.{Begins};
 ghost use Rattle.mail_desk.specs.Remaking.{CanReplace, remade_as};
-ghost use Rattle.time_desk.specs.Cycling.{CanBeUndone, CanRework, IsFit, RedoesAlone, RedoesCycle, Reworks, ReworksAlone, after_rewound, asked_then};
+ghost use Rattle.time_desk.specs.Cycling.{CanBeUndone, CanRework, IsFit, Reworks, ReworksAlone, after_rewound, asked_then};
 ghost use Rattle.time_desk.specs.Planning.{BodiesCause};
 ghost use Rattle.time_desk.specs.Replaying.{some_marked};
+ghost use Rattle.time_desk.specs.Requests.{IsKnown, IsTaskFor, RedoesAloneFor, RedoesFor, anew_of, wanted_of};
 ghost use Rattle.time_desk.specs.Serving.{IsNewest, CanBegin, unmarked};
-ghost use Rattle.time_desk.specs.Withdrawing.{WithdrawsAlone, WithdrawsInSteps};
 ghost use Rattle.desk_journal.specs.Stored.{AreNoted, MarkedBefore, Renotes};
 ghost use Rattle.desk_journal.specs.Telling.{HoldsHeld, IsOnlyRead, IsPastRead};
 
 use crate::beginning::beginning;
 use crate::deliveries::DueDeliveries;
+use crate::request::Request;
 use box_store::Steps;
 use cycle_rules::laws::cycles_can_be_withdrawn;
 use desk_journal::{Journal, NewTexts, Past, Reading};
@@ -43,7 +43,6 @@ use undo_base::{LAST_MOMENT, Name, NoMemory, Text};
 use undo_outside::{Disk, Gate};
 use verb_bytes::CycleAsk;
 use verb_core::BodiesFault;
-use withdraw::UndoneBehind;
 
 /// What a repair begins with.
 pub(crate) fn begun(desk: &Desk) -> Before<'_>
@@ -152,61 +151,65 @@ fn again<D: Disk, L: Ledger>(
     rework_in_order(alloc, due, first, &mut bodies, &mut steps)
 }
 
-// ---- a cycle
+// ---- what is asked
 
-/// What the cycle leaves that is due at a moment under a new key. Texts are read before a gate.
-fn cycle_before<R: Threads + Sync, G: Gate, D: Disk, L: Ledger>(
-    rt: &R,
+/// What is due to a request at a moment, under a new key.
+fn due_for<'a>(
     alloc: Global,
-    past: &mut Past<D>,
-    desk: &Desk,
+    desk: &'a Desk,
     at: u64,
-    ask: &CycleAsk,
-    gate: &G,
-    steps: &mut Steps<L>,
-) -> Result<Rewound, CycleRefused>
-    requires noted { AreNoted past.old.end desk.now }
+    asked: &Request<'a>,
+) -> Result<Due<'a>, CycleRefused>
     requires moment { at ≤ LAST_MOMENT }
-    requires known { IsTrue (are_known desk.now.kept.house ask.now.inserts) }
-    ensures redoes { RedoesCycle D.told desk.now at ask.now past.old.disk past.new.disk (past.new ≡ past.old) steps.old steps.new result }
-    ensures still { IsPastRead D.told past.old past.new }
+    requires known { IsKnown desk.now.kept asked.now }
+    ensures task { IfOk result (IsTaskFor desk.now.kept at asked.now) }
+    ensures refused { IfErr result (IsRefusalBy desk.now.kept (wanted_of asked.now) (anew_of desk.now.kept at asked.now)) }
+    ensures unread { IsErrOf result CycleRefused.Disk → ⊥ }
 {
     desk.stands();
-    cycles_leave_states();
-    cycles_can_be_withdrawn();
-    let due = Due::cycle(begun(desk), at, ask)?;
-    let made = rewound(rt, alloc, past, desk, &due, gate, steps)?;
-    Ok(made)
+    match asked {
+        Request::Cycle(ask) => Due::cycle(begun(desk), at, ask),
+        Request::Withdrawal(_, of) => match desk.undone(*of) {
+            Some(last) => Due::withdrawal(alloc, begun(desk), at, last),
+            None => Err(CycleRefused::Point { given: *of }),
+        },
+    }
 }
 
-/// The same of a journal.
-pub(crate) fn cycle<R: Threads + Sync, G: Gate, D: Disk, L: Ledger>(
+/// What comes of a request at a moment under a new key, beside the desk. Texts are read before a gate.
+pub(crate) fn rework<R: Threads + Sync, G: Gate, D: Disk, L: Ledger>(
     rt: &R,
     alloc: Global,
     journal: &mut Journal<D>,
     desk: &Desk,
     at: u64,
-    ask: &CycleAsk,
+    asked: &Request<'_>,
     gate: &G,
     steps: &mut Steps<L>,
 ) -> Result<Rewound, CycleRefused>
     requires noted { AreNoted journal.old.gate desk.now }
     requires moment { at ≤ LAST_MOMENT }
-    requires known { IsTrue (are_known desk.now.kept.house ask.now.inserts) }
-    ensures redoes { RedoesCycle D.told desk.now at ask.now journal.old.disk journal.new.disk (journal.new ≡ journal.old) steps.old steps.new result }
+    requires known { IsKnown desk.now.kept asked.now }
+    ensures redoes { RedoesFor D.told desk.now at asked.now journal.old.disk journal.new.disk (journal.new ≡ journal.old) steps.old steps.new result }
     ensures still { IsOnlyRead D.told journal.old journal.new }
 {
-    cycle_before(rt, alloc, &mut journal.past, desk, at, ask, gate, steps)
+    desk.stands();
+    cycles_leave_states();
+    cycles_can_be_withdrawn();
+    withdrawals_leave_states();
+    let due = due_for(alloc, desk, at, asked)?;
+    let made = rewound(rt, alloc, &mut journal.past, desk, &due, gate, steps)?;
+    Ok(made)
 }
 
 /// The same with nothing counted, over a counter that is made of the blank ledger.
-pub(crate) fn cycle_alone<R: Threads + Sync, G: Gate, D: Disk, L: Ledger>(
+pub(crate) fn rework_alone<R: Threads + Sync, G: Gate, D: Disk, L: Ledger>(
     rt: &R,
     alloc: Global,
     journal: &mut Journal<D>,
     desk: &Desk,
     at: u64,
-    ask: &CycleAsk,
+    asked: &Request<'_>,
     gate: &G,
     blank: Blank,
 ) -> Result<Rewound, CycleRefused>
@@ -215,122 +218,35 @@ pub(crate) fn cycle_alone<R: Threads + Sync, G: Gate, D: Disk, L: Ledger>(
     requires some { 0 < blank.parts }
     requires noted { AreNoted journal.old.gate desk.now }
     requires moment { at ≤ LAST_MOMENT }
-    requires known { IsTrue (are_known desk.now.kept.house ask.now.inserts) }
-    ensures redoes { RedoesAlone D.told desk.now at ask.now journal.old.disk journal.new.disk result }
+    requires known { IsKnown desk.now.kept asked.now }
+    ensures redoes { RedoesAloneFor D.told desk.now at asked.now journal.old.disk journal.new.disk result }
     ensures still { IsOnlyRead D.told journal.old journal.new }
 {
     let mut steps: Steps<L> = Steps::new(blank);
-    cycle(rt, alloc, journal, desk, at, ask, gate, &mut steps)
+    rework(rt, alloc, journal, desk, at, asked, gate, &mut steps)
 }
 
-/// What the cycle leaves that is due, performed again.
-pub(crate) fn cycle_again<D: Disk>(
+/// What comes of a request whose record is read, performed again.
+pub(crate) fn rework_again<D: Disk>(
     alloc: Global,
     past: &mut Past<D>,
     desk: &Desk,
     at: u64,
-    ask: &CycleAsk,
+    asked: &Request<'_>,
 ) -> Result<Rewound, CycleRefused>
     requires noted { AreNoted past.old.end desk.now }
     requires moment { at ≤ LAST_MOMENT }
-    requires known { IsTrue (are_known desk.now.kept.house ask.now.inserts) }
-    ensures redoes { RedoesAlone D.told desk.now at ask.now past.old.disk past.new.disk result }
+    requires known { IsKnown desk.now.kept asked.now }
+    ensures redoes { RedoesAloneFor D.told desk.now at asked.now past.old.disk past.new.disk result }
     ensures still { IsPastRead D.told past.old past.new }
 {
     desk.stands();
     cycles_leave_states();
     cycles_can_be_withdrawn();
-    let due = Due::cycle(begun(desk), at, ask)?;
+    withdrawals_leave_states();
+    let due = due_for(alloc, desk, at, asked)?;
     let made = again::<D, Brand>(alloc, past, desk, &due, Blank::new(1))?;
     Ok(made)
-}
-
-// ---- a withdrawal
-
-/// What the withdrawal of the last cycle leaves that is due at a moment under a new key. Texts are read before a gate.
-fn withdrawal_before<R: Threads + Sync, G: Gate, D: Disk, L: Ledger>(
-    rt: &R,
-    alloc: Global,
-    past: &mut Past<D>,
-    desk: &Desk,
-    at: u64,
-    last: &UndoneBehind,
-    gate: &G,
-    steps: &mut Steps<L>,
-) -> Result<Rewound, CycleRefused>
-    requires last { desk.now.kept.undone ≡ Some last.now }
-    requires noted { AreNoted past.old.end desk.now }
-    requires moment { at ≤ LAST_MOMENT }
-    ensures redoes { (of : ℕ) → undone_of desk.now.kept of ≡ Some last.now → WithdrawsInSteps D.told desk.now at of past.old.disk past.new.disk (past.new ≡ past.old) steps.old steps.new result }
-    ensures still { IsPastRead D.told past.old past.new }
-{
-    desk.stands();
-    withdrawals_leave_states();
-    let due = Due::withdrawal(alloc, begun(desk), at, last)?;
-    let made = rewound(rt, alloc, past, desk, &due, gate, steps)?;
-    Ok(made)
-}
-
-/// The same of a journal, where the cycle has this number.
-pub(crate) fn withdrawal<R: Threads + Sync, G: Gate, D: Disk, L: Ledger>(
-    rt: &R,
-    alloc: Global,
-    journal: &mut Journal<D>,
-    desk: &Desk,
-    at: u64,
-    of: u32,
-    gate: &G,
-    steps: &mut Steps<L>,
-) -> Result<Rewound, CycleRefused>
-    requires noted { AreNoted journal.old.gate desk.now }
-    requires moment { at ≤ LAST_MOMENT }
-    ensures redoes { WithdrawsInSteps D.told desk.now at of journal.old.disk journal.new.disk (journal.new ≡ journal.old) steps.old steps.new result }
-    ensures still { IsOnlyRead D.told journal.old journal.new }
-{
-    match desk.undone(of) {
-        Some(last) => withdrawal_before(rt, alloc, &mut journal.past, desk, at, last, gate, steps),
-        None => Err(CycleRefused::Point { given: of }),
-    }
-}
-
-/// What the withdrawal of the last cycle leaves that is due, performed again.
-fn undone_again<D: Disk>(
-    alloc: Global,
-    past: &mut Past<D>,
-    desk: &Desk,
-    at: u64,
-    last: &UndoneBehind,
-) -> Result<Rewound, CycleRefused>
-    requires last { desk.now.kept.undone ≡ Some last.now }
-    requires noted { AreNoted past.old.end desk.now }
-    requires moment { at ≤ LAST_MOMENT }
-    ensures redoes { (of : ℕ) → undone_of desk.now.kept of ≡ Some last.now → WithdrawsAlone D.told desk.now at of past.old.disk past.new.disk result }
-    ensures still { IsPastRead D.told past.old past.new }
-{
-    desk.stands();
-    withdrawals_leave_states();
-    let due = Due::withdrawal(alloc, begun(desk), at, last)?;
-    let made = again::<D, Brand>(alloc, past, desk, &due, Blank::new(1))?;
-    Ok(made)
-}
-
-/// The same, where the cycle has this number.
-pub(crate) fn withdrawal_again<D: Disk>(
-    alloc: Global,
-    past: &mut Past<D>,
-    desk: &Desk,
-    at: u64,
-    of: u32,
-) -> Result<Rewound, CycleRefused>
-    requires noted { AreNoted past.old.end desk.now }
-    requires moment { at ≤ LAST_MOMENT }
-    ensures redoes { WithdrawsAlone D.told desk.now at of past.old.disk past.new.disk result }
-    ensures still { IsPastRead D.told past.old past.new }
-{
-    match desk.undone(of) {
-        Some(last) => undone_again(alloc, past, desk, at, last),
-        None => Err(CycleRefused::Point { given: of }),
-    }
 }
 
 // ---- what it leaves

@@ -26,7 +26,8 @@ ghost use Rattle.time_desk.specs.Standing.{AsksAlike, Enters, IsFormed, Performs
 ghost use Rattle.desk_journal.specs.Stored.{AreNoted, KeepsMarks, MarksLie, NotesCycle, NotesNone, NotesTexts, Renotes, TextsHeld, TextsStored};
 ghost use Rattle.desk_journal.specs.Telling.{IsPastRead};
 
-use crate::redo::{cycle_again, key_in, remade, withdrawal_again};
+use crate::redo::{key_in, remade, rework_again};
+use crate::request::Request;
 use box_store::makes_store;
 use desk_journal::{Past, fresh_of, item_of, no_fresh};
 use mail_cycle::{CycleRefused, Rewound};
@@ -320,7 +321,7 @@ fn rewind_anew<D: Disk>(
     ensures cause { ReadAtCause (D.told past.old.disk) (D.told past.new.disk) result }
 {
     desk.stands();
-    match cycle_again(alloc, past, desk, at, &ask) {
+    match rework_again(alloc, past, desk, at, &Request::Cycle(&ask)) {
         Ok(made) => put_in_place(alloc, desk, ask, made, place),
         Err(refused) => {
             drop(ask);
@@ -414,7 +415,7 @@ fn withdraw_anew<D: Disk>(
     ensures cause { ReadAtCause (D.told past.old.disk) (D.told past.new.disk) result }
 {
     desk.stands();
-    match withdrawal_again(alloc, past, desk, at, of) {
+    match rework_again(alloc, past, desk, at, &Request::Withdrawal(&key, of)) {
         Ok(made) => put_back(alloc, desk, key, made, place),
         Err(refused) => {
             drop(key);

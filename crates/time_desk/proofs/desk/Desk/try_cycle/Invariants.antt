@@ -1,4 +1,4 @@
 use Rattle.time_desk.proofs.desk.Desk.try_cycle.Given as goal
 
-abbrev pub ghosts-cycle_alone : goal.ghosts-cycle_alone
-ghosts-cycle_alone g a = record { name = a.blank.name; parts = a.blank.parts }
+abbrev pub ghosts-rework_alone : goal.ghosts-rework_alone
+ghosts-rework_alone g a = record { name = a.blank.name; parts = a.blank.parts }
