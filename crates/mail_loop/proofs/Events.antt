@@ -84,16 +84,6 @@ bytes_heard S conn at kept kept' es lent es' s s' bytes turned view stops answer
       ),
     )
 
--- strings after which serving goes on
-pub going_answers : {T U : Type 0} → (S : List JournalRecord → TurnCounts → Type 0) (a : Answered) (kept : Kept) (seats : Seats) (view : T → List Reply) (of : U → T) (stops : U → Bool)
-    (letters : Result T WantOfMemory) (result : Result U WantOfMemory)
-    → IfOk result (λ u. (letters ≡ Ok (of u)) × (stops u ≡ false)) → IfErr result (λ e. letters ≡ Err e)
-    → Answers S a kept seats view (λ _. false) letters → Answers S a kept seats (λ u. view (of u)) stops result
-going_answers {T} S a kept seats view of stops letters (Ok u) ok err answers =
-    let x = subst (λ (l : Result T WantOfMemory). Answers S a kept seats view (λ _. false) l) ok.0 answers in ((x.0.0, x.0.1, x.0.2, ok.1 ∙ x.0.3), x.1, x.2)
-going_answers {T} S a kept seats view of stops letters (Err e) ok err answers =
-    let x = subst (λ (l : Result T WantOfMemory). Answers S a kept seats view (λ _. false) l) err answers in (x.0, x.1, x.2)
-
 -- memory was wanted before a string was sent
 pub leads_out_of_memory : (S : List JournalRecord → TurnCounts → Type 0) (W : Hindrances → Type 0) (told : LinkTold) (s : State) (event : Event) (b : Bool) (hs : List Hindrance) (stage : Stage) (kept : Kept) (seats : Seats) (w : WantOfMemory) (result : Result Bool WantOfMemory)
     → result ≡ Err w → kept ≡ (answered b hs stage s event).state.kept → (answered b hs stage s event).unsealed ≡ [] → (answered b hs stage s event).counts ≡ none_counted → kept ≡ s.kept

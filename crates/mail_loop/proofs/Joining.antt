@@ -31,12 +31,17 @@ opened_with a kept es es' conn seat replies view (Ok letters) is opens =
 opened_with {T} a kept es es' conn seat replies view (Err e) is opens =
     subst (λ (x : Answered). Answers IsNone x kept es' view (λ _. false) (Err e)) (sym is) ((refl, refl, refl), (refl, refl), tt)
 
--- the seat and the replies, as they are
-pub opened_as : {T : Type 0} (conn : ℕ) (made seat : Seat) (said replies : List Reply) (es es' : Seats) (view : T → List Reply) (result : Result T WantOfMemory)
-    → made ≡ seat → said ≡ replies → Opens conn made said es es' view result → Opens conn seat replies es es' view result
-opened_as conn made seat said replies es es' view (Ok letters) seats tells opens =
-    (opens.0 ∙ ap (λ (s : Seat). with_new_seat conn s es) seats, opens.1 ∙ tells)
-opened_as conn made seat said replies es es' view (Err e) seats tells opens = tt
+-- memory was wanted for what is said
+pub unopened : {T : Type 0} (a : Answered) (kept : Kept) (es : Seats) (conn : ℕ) (seat : Seat) (replies : List Reply) (view : T → List Reply) (e : WantOfMemory) (result : Result T WantOfMemory)
+    → result ≡ Err e → a ≡ with_replies kept es conn seat replies → Answers IsNone a kept es view (λ _. false) result
+unopened {T} a kept es conn seat replies view e result wants is =
+    opened_with a kept es es conn seat replies view result is (subst (λ (r : Result T WantOfMemory). Opens conn seat replies es es view r) (sym wants) tt)
+
+-- the replies, as they are
+pub tells_as : {T : Type 0} (conn : ℕ) (seat : Seat) (said replies : List Reply) (es es' : Seats) (view : T → List Reply) (result : Result T WantOfMemory)
+    → said ≡ replies → Opens conn seat said es es' view result → Opens conn seat replies es es' view result
+tells_as conn seat said replies es es' view (Ok letters) tells opens = (opens.0, opens.1 ∙ tells)
+tells_as conn seat said replies es es' view (Err e) tells opens = tt
 
 -- each who is logged in is known still
 pub home_opened : (house : House) (conn : ℕ) (seat : Seat) (es es' : Seats) → es' ≡ with_new_seat conn seat es → IsHome house seat → AreHome house es → AreHome house es'

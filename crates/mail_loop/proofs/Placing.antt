@@ -1,5 +1,5 @@
 -- The letters of an event, by rising connection.
-use Rattle.std.proofs.Common.{◌≡◌, ℕ, suc, ◌+◌, ◌==◌, Bool, true, false, not, cond, nat_lt, List, [], ◌∷◌, length, None, Some, option_map, refl, ap, sym, ◌∙◌, arith}
+use Rattle.std.proofs.Common.{◌≡◌, ◌≤◌, ℕ, suc, ◌+◌, ◌==◌, Bool, true, false, not, cond, nat_lt, List, [], ◌∷◌, length, None, Some, unwrap_or, option_map, refl, ap, sym, ◌∙◌, arith}
 use Rattle.std.specs.List.{cons_option, insert, position, position_or_len}
 use Rattle.std.proofs.lemmas.Bool.{ltb-false}
 use Rattle.std.proofs.lemmas.List.Sums.{prefix_len-le-length}
@@ -14,16 +14,19 @@ use Rattle.mail_loop.specs.Stands.{letter_of, replies_of}
 one_more : (n : ℕ) → 1 + n ≡ suc n
 one_more n = omega arith
 
--- the end, where none passes
-pub none_passes : {X : Type 0} (p : X → Bool) (xs : List X) → position p xs ≡ None → length xs ≡ position_or_len p xs
-none_passes {X} p xs none = by_test (nat_lt (position_or_len p xs) (length xs)) refl none
+-- the first that passes, or the end where none does
+pub place_is : {X : Type 0} (p : X → Bool) (xs : List X) → unwrap_or (position p xs) (length xs) ≡ position_or_len p xs
+place_is {X} p xs = by_test (nat_lt (position_or_len p xs) (length xs)) refl
   where
-    by_test : (b : Bool) → nat_lt (position_or_len p xs) (length xs) ≡ b → cond b (Some (position_or_len p xs)) None ≡ None → length xs ≡ position_or_len p xs
-    by_test true is some = absurd (let wrong : Some (position_or_len p xs) ≡ None = some in cc)
-    by_test false is some =
+    by_test : (b : Bool) → nat_lt (position_or_len p xs) (length xs) ≡ b → unwrap_or (cond b (Some (position_or_len p xs)) None) (length xs) ≡ position_or_len p xs
+    by_test true is = refl
+    by_test false is =
         let within = prefix_len-le-length (λ (x : X). not (p x)) xs in
         let past = ltb-false (position_or_len p xs) (length xs) is in
         omega arith
+
+pub place_within : {X : Type 0} (p : X → Bool) (xs : List X) → position_or_len p xs ≤ length xs
+place_within {X} p xs = prefix_len-le-length (λ (x : X). not (p x)) xs
 
 pub quiet_is : (a : Aftermath) → is_quiet a ≡ true → a ≡ Quiet
 quiet_is Quiet is = refl

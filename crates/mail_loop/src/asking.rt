@@ -2,19 +2,19 @@
 //!
 //! The code reads from the ask which mailboxes it would take away, and takes the memory for that before it asks. They are proved
 //! to be those that are gone between the stores.
-ghost use Rattle.std.specs.Prelude.{◌≡◌, ◌↔◌, ℕ, ◌++◌, ◌∷◌, [], false, bytes_eq, filter, length, map, take, IsSome, IsTrue, OnErr, OnOk};
-ghost use Rattle.std.specs.List.{cons_option, list_all};
+ghost use Rattle.std.specs.Prelude.{◌≡◌, ℕ, ◌++◌, ◌∷◌, [], false, true, bytes_eq, filter, is_some, length, map, take, OnErr, OnOk};
 ghost use Rattle.verb_core.specs.declared.mailbox.BoxId.{BoxId as TheBoxId};
 ghost use Rattle.verb_core.specs.Boxes.{box_of, is_at_or_below as is_below};
 ghost use Rattle.verb_core.specs.Live.{is_users};
 ghost use Rattle.verb_core.specs.Names.{inbox};
-ghost use Rattle.verb_core.specs.Store.{is_known};
 ghost use Rattle.mail_loop.specs.Afterwards.{gone_between};
 ghost use Rattle.mail_loop.specs.Asked.{HaveSealed};
+ghost use Rattle.mail_loop.specs.Session.{is_home};
 ghost use Rattle.mail_loop.specs.Took.{Submits, is_refused, taken_by, taken_of};
 
 use crate::gone::Gone;
 use crate::reply::Reply;
+use crate::speaks::Speaks;
 use box_store::is_at_or_below;
 use std::alloc::Global;
 use time_desk::Desk;
@@ -112,7 +112,7 @@ fn note_of(
 }
 
 /// Notes the mailboxes that an ask takes away, of those that there are.
-fn note_by(
+fn note(
     alloc: Global,
     gone: &mut Gone,
     rows: &[(BoxId, u32)],
@@ -128,46 +128,29 @@ fn note_by(
     }
 }
 
-/// Notes the mailboxes that an ask takes away, of those that there are, or none of them.
-fn note(
-    alloc: Global,
-    gone: &mut Gone,
-    rows: &[(BoxId, u32)],
-    by: Option<User>,
-    ask: &Ask,
-) -> Result<(), NoMemory>
-    ensures ok { OnOk result (gone.new ≡ gone.old ++ taken_by by ask.now (map (λ (r : TheBoxId × ℕ). r.0) rows.now)) }
-    ensures err { OnErr result (gone.new ≡ gone.old) }
-{
-    let before = gone.len();
-    match note_by(alloc, gone, rows, by, ask) {
-        Ok(()) => Ok(()),
-        Err(NoMemory) => {
-            gone.keep_first(before);
-            Err(NoMemory)
-        }
-    }
-}
-
-/// Asks the desk, with memory for what is to be told to others taken before.
-pub fn ask_desk<D: Disk + Drop>(
+/// Asks the desk for who is logged in, with memory for what is to be told to others taken before.
+pub fn ask_desk<S: Speaks, D: Disk + Drop>(
     alloc: Global,
     desk: &mut Desk<D>,
+    session: &S,
     at: u64,
-    by: Option<User>,
     ask: Ask,
     reply: &mut Reply,
 ) -> Result<Item, SubmitFault>
-    requires by { IsSome by ↔ IsTrue (is_users ask) }
-    requires known { IsTrue (list_all (is_known desk.old.kept.house) (cons_option by [])) }
+    requires user { is_users ask ≡ is_some (S.speech.user session.now) }
+    requires home { is_home S.speech desk.old.kept.house session.now ≡ true }
     requires sealed { desk.old.closed ≡ false }
-    ensures did { Submits (HaveSealed D.told desk.old desk.new) at desk.old.kept by ask desk.new.kept result }
+    ensures did { Submits (HaveSealed D.told desk.old desk.new) at desk.old.kept (S.speech.user session.now) ask desk.new.kept result }
     ensures noted { reply.new ≡ record reply.old { gone = reply.old.gone ++ gone_between desk.old.kept desk.new.kept } }
+    ensures home { is_home S.speech desk.new.kept.house session.now ≡ true }
+    ensures house { desk.new.kept.house ≡ desk.old.kept.house }
 {
     seals_join::<D>();
     desk.stands();
+    let by = session.asker();
     let before = reply.gone.len();
     if let Err(NoMemory) = note(alloc, &mut reply.gone, desk.stamps().as_slice(), by, &ask) {
+        reply.gone.keep_first(before);
         return Err(SubmitFault::Refused(Refused::NoMemory));
     }
     let outcome = desk.submit(alloc, at, by, ask);

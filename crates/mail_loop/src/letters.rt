@@ -11,7 +11,7 @@
 //! and one. Where there is none serving ends with want of memory and nothing of the event is done. So after a seal that failed
 //! the answer and the close can be cut short by nothing but a `close` that found no memory.
 ghost use Rattle.std.specs.Prelude.{◌≡◌, ◌<◌, ◌≤◌, ◌∷◌, [], length, nat_lt, option_map, position, vec_capacity, vec_len, IfOk};
-ghost use Rattle.std.specs.List.{insert, position_or_len};
+ghost use Rattle.std.specs.List.{insert};
 ghost use Rattle.mail_loop.specs.Machine.{parting, told_other, told_others, with_reply};
 ghost use Rattle.mail_loop.specs.Stands.{letter_of, replies_of, reply_of, said_of};
 
@@ -56,24 +56,6 @@ impl Letter {
     }
 }
 
-/// The letter of a connection's own turns.
-fn own_letter(turned: Turned) -> Letter
-    ensures { letter_of result ≡ reply_of turned }
-{
-    let Turned {
-        conn,
-        said,
-        closes,
-        stops: _,
-        aftermath: _,
-    } = turned;
-    Letter {
-        conn,
-        said: Said::Answers(said),
-        closes,
-    }
-}
-
 /// One letter.
 pub fn alone(alloc: Global, letter: Letter) -> Result<Vec<Letter>, NoMemory>
     ensures { IfOk result (λ letters. replies_of letters.items ≡ letter_of letter ∷ []) }
@@ -83,21 +65,11 @@ pub fn alone(alloc: Global, letter: Letter) -> Result<Vec<Letter>, NoMemory>
     Ok(letters)
 }
 
+/// The first letter of a connection with a greater number.
 fn first_behind(conn: u32, letters: &[Letter]) -> Option<usize>
     ensures { result ≡ position (λ l. nat_lt conn l.conn) letters.now }
 {
     letters.iter().position(|letter| conn < letter.conn)
-}
-
-/// Where a connection's letter stands among those of others, which are by rising connection.
-fn place_of(conn: u32, letters: &[Letter]) -> usize
-    ensures place { result ≡ position_or_len (λ l. nat_lt conn l.conn) letters.now }
-    ensures within { result ≤ length letters.now }
-{
-    match first_behind(conn, letters) {
-        None => letters.len(),
-        Some(place) => place,
-    }
 }
 
 /// The last letter to a connection.
@@ -143,29 +115,9 @@ fn letter_to(
     }
 }
 
-/// The letters to the other connections that are told of what follows. There is room for them.
+/// The letters to the other connections that are told of what follows, by rising connection. They are looked at only where
+/// something follows. There is room for the letters.
 fn letters_to_others(
-    room: Vec<Letter>,
-    connections: &BTreeMap<u32, Connection>,
-    conn: u32,
-    aftermath: &Aftermath,
-) -> Vec<Letter>
-    requires none { room.items ≡ [] }
-    requires room { length connections.now.entries < vec_capacity room }
-    ensures letters { replies_of result.items ≡ told_others conn aftermath.now connections.now.entries }
-    ensures room { vec_len result < vec_capacity result }
-{
-    let mut letters = room;
-    for (number, connection) in connections {
-        if let Some(letter) = letter_to(*number, connection, conn, aftermath) {
-            letters.push_reserved(letter);
-        }
-    }
-    letters
-}
-
-/// The letters to others, by rising connection. They are looked at only where something follows.
-fn letters_beside(
     room: Vec<Letter>,
     connections: &BTreeMap<u32, Connection>,
     conn: u32,
@@ -179,7 +131,13 @@ fn letters_beside(
     if aftermath.is_quiet() {
         return room;
     }
-    letters_to_others(room, connections, conn, aftermath)
+    let mut letters = room;
+    for (number, connection) in connections {
+        if let Some(letter) = letter_to(*number, connection, conn, aftermath) {
+            letters.push_reserved(letter);
+        }
+    }
+    letters
 }
 
 /// A letter at a place among others. There is room for it.
@@ -193,16 +151,7 @@ fn with_letter(letters: Vec<Letter>, place: usize, letter: Letter) -> Vec<Letter
     letters
 }
 
-/// A connection's letter in its place among those of others, which are by rising connection. There is room for it.
-fn with_own(letters: Vec<Letter>, turned: Turned) -> Vec<Letter>
-    requires room { vec_len letters < vec_capacity letters }
-    ensures { replies_of result.items ≡ with_reply (reply_of turned) (replies_of letters.items) }
-{
-    let place = place_of(turned.conn, letters.as_slice());
-    with_letter(letters, place, own_letter(turned))
-}
-
-/// The letters of an event, by rising connection, which take no memory.
+/// The letters of an event, which take no memory: that of the connection's own turns in its place among those of others.
 pub fn letters_of(
     room: Vec<Letter>,
     connections: &BTreeMap<u32, Connection>,
@@ -213,6 +162,19 @@ pub fn letters_of(
     requires room { length connections.now.entries < vec_capacity room }
     ensures { replies_of result.items ≡ with_reply (reply_of turned) (told_others conn turned.aftermath connections.now.entries) }
 {
-    let letters = letters_beside(room, connections, conn, &turned.aftermath);
-    with_own(letters, turned)
+    let Turned {
+        conn: own,
+        said,
+        closes,
+        stops: _,
+        aftermath,
+    } = turned;
+    let letters = letters_to_others(room, connections, conn, &aftermath);
+    let place = first_behind(own, letters.as_slice()).unwrap_or(letters.len());
+    let letter = Letter {
+        conn: own,
+        said: Said::Answers(said),
+        closes,
+    };
+    with_letter(letters, place, letter)
 }

@@ -18,7 +18,7 @@
 //!
 //! A console's stop ends serving after its event with Ok, before any later event; where memory is wanted for that event's strings
 //! the answer is want of memory. After a stop no step follows (`NoStop`).
-ghost use Rattle.std.specs.Prelude.{◌≡◌, ◌≤◌, ◌∷◌, ℕ, Bool, List, Ok, Err, IfOk, IfErr, OnErr, false, [], length};
+ghost use Rattle.std.specs.Prelude.{◌≡◌, ◌≤◌, ℕ, Bool, List, OnErr, false, [], length};
 ghost use Rattle.std.specs.List.{list_any};
 ghost use Rattle.console_head.specs.Request.{Stage};
 ghost use Rattle.undo_outside.specs.declared.event.LinkNote.{LinkNote};
@@ -34,7 +34,7 @@ ghost use Rattle.mail_loop.specs.Took.{IsNone};
 ghost use Rattle.mail_loop.specs.Machine.{Hindrances, Delivery, Keeping, admits, after_reply, answered, delivered, happens, hears_at, is_end, joins, seat_at};
 ghost use Rattle.verb_core.specs.declared.conf.House.{House as TheHouse};
 ghost use Rattle.mail_loop.specs.Roles.{row_of};
-ghost use Rattle.mail_loop.specs.Stands.{AreHome, IsHome, letter_of, replies_of};
+ghost use Rattle.mail_loop.specs.Stands.{AreHome, letter_of, replies_of};
 ghost use Rattle.mail_loop.specs.Did.{AreLicensed, Told, Replied, Sends, Leads, Answers, Opens, Keeps, is_due_on, unclosed_by};
 ghost use Rattle.mail_loop.specs.Serving.{Step, ServedOver, counts_in, ended_as, is_disk, unsealed_in};
 ghost use Rattle.mail_loop.specs.Acknowledged.{GoesThrough, WentThrough};
@@ -51,7 +51,7 @@ use thiserror::Error;
 use time_desk::Desk;
 use time_desk::laws::seals_join;
 use time_desk::permanence::records_let_uids_last;
-use undo_base::{LAST_MOMENT, NoMemory, Text};
+use undo_base::{LAST_MOMENT, NoMemory};
 use undo_outside::{Disk, Event, Fault, Gate, Link, Role, What};
 
 /// Why serving ended before the end.
@@ -135,52 +135,19 @@ fn keep_if(connections: &mut Connections, conn: u32, stays: bool)
     }
 }
 
-/// Opens a connection. Where no memory is found for it none is opened.
+/// Opens a connection of a role, whose client is told this. Where no memory is found for it none is opened.
 fn enter(
+    alloc: Global,
     connections: &mut Connections,
     conn: u32,
-    connection: Connection,
+    role: Role,
     letters: Vec<Letter>,
 ) -> Result<Vec<Letter>, NoMemory>
-    requires home { (house : TheHouse) → IsHome house connection }
     ensures home { (house : TheHouse) → AreHome house connections.old.entries → AreHome house connections.new.entries }
-    ensures opens { Opens conn connection (replies_of letters.items) connections.old.entries connections.new.entries (λ replies. replies_of replies.items) result }
+    ensures opens { Opens conn (row_of role).fresh (replies_of letters.items) connections.old.entries connections.new.entries (λ replies. replies_of replies.items) result }
 {
-    connections.insert(conn, connection)?;
+    connections.insert(conn, Connection::fresh(alloc, role))?;
     Ok(letters)
-}
-
-/// Opens a connection of a role, with its greeting.
-fn open_greeted(
-    alloc: Global,
-    connections: &mut Connections,
-    conn: u32,
-    role: Role,
-    greeting: Text,
-) -> Result<Vec<Letter>, NoMemory>
-    ensures home { (house : TheHouse) → AreHome house connections.old.entries → AreHome house connections.new.entries }
-    ensures opens { Opens conn (row_of role).fresh (record { conn = conn; said = greeting; closes = false } ∷ []) connections.old.entries connections.new.entries (λ replies. replies_of replies.items) result }
-{
-    let letters = alone(alloc, greeting_to(conn, greeting))?;
-    enter(connections, conn, Connection::fresh(alloc, role), letters)
-}
-
-/// Opens a connection of a role that is not greeted.
-fn open_silent(
-    alloc: Global,
-    connections: &mut Connections,
-    conn: u32,
-    role: Role,
-) -> Result<Vec<Letter>, NoMemory>
-    ensures home { (house : TheHouse) → AreHome house connections.old.entries → AreHome house connections.new.entries }
-    ensures opens { Opens conn (row_of role).fresh [] connections.old.entries connections.new.entries (λ replies. replies_of replies.items) result }
-{
-    enter(
-        connections,
-        conn,
-        Connection::fresh(alloc, role),
-        Vec::new(alloc),
-    )
 }
 
 /// Opens a connection of a role, and greets the client where the role has a greeting. Where no memory is found for that the
@@ -197,8 +164,11 @@ fn admit<D: Disk + Drop>(
         desk.now.kept connections.new.entries (λ replies. replies_of replies.items) (λ _. false) result }
 {
     match greeting(alloc, desk.house(), role) {
-        Ok(Some(greeting)) => open_greeted(alloc, connections, conn, role, greeting),
-        Ok(None) => open_silent(alloc, connections, conn, role),
+        Ok(Some(greeting)) => {
+            let letters = alone(alloc, greeting_to(conn, greeting))?;
+            enter(alloc, connections, conn, role, letters)
+        }
+        Ok(None) => enter(alloc, connections, conn, role, Vec::new(alloc)),
         Err(NoMemory) => alone(alloc, ungreeted(alloc, conn)),
     }
 }
@@ -219,20 +189,6 @@ fn join<D: Disk + Drop>(
         Ok(Vec::new(alloc))
     } else {
         admit(alloc, desk, connections, conn, role)
-    }
-}
-
-/// Strings after which serving goes on.
-fn going_on_with(letters: Result<Vec<Letter>, NoMemory>) -> Result<Answer, NoMemory>
-    ensures ok { IfOk result (λ answer. (letters ≡ Ok answer.letters) × (answer.stops ≡ false)) }
-    ensures err { IfErr result (λ e. letters ≡ Err e) }
-{
-    match letters {
-        Ok(letters) => Ok(Answer {
-            letters,
-            stops: false,
-        }),
-        Err(NoMemory) => Err(NoMemory),
     }
 }
 
@@ -303,7 +259,13 @@ fn answer_event<R: Threads + Sync, D: Disk + Drop, G: Gate>(
     seals_join::<D>();
     let conn = event.conn;
     match &event.what {
-        What::Joined(role) => going_on_with(join(alloc, desk, connections, conn, *role)),
+        What::Joined(role) => {
+            let letters = join(alloc, desk, connections, conn, *role)?;
+            Ok(Answer {
+                letters,
+                stops: false,
+            })
+        }
         What::Bytes(bytes) => {
             let at = event.at.min(LAST_MOMENT);
             hear_at(rt, alloc, desk, connections, conn, at, gate, bytes.bytes())
@@ -369,20 +331,13 @@ fn serve_event<R: Threads + Sync, L: Link, D: Disk + Drop, G: Gate>(
     }
 }
 
-/// Whether serving is over: a record was not sealed.
-fn is_over<D: Disk>(desk: &Desk<D>) -> bool
-    ensures { result ≡ desk.now.closed }
-{
-    desk.closed()
-}
-
-/// The end of the events: takes the snapshot that is due.
+/// The end of the events: takes the snapshot that is due. Serving is over for the disk where the desk is closed, by a record that was not sealed.
 fn end_serving<D: Disk>(alloc: Global, desk: &mut Desk<D>) -> Result<(), ServeFault>
     ensures keeps { (k : Keeping) × Keeps D.told k desk.old desk.new }
     ensures ends { result ≡ ended_as desk.new.closed }
 {
     keep_up(alloc, desk);
-    let over = is_over(desk);
+    let over = desk.closed();
     if over { Err(ServeFault::Disk) } else { Ok(()) }
 }
 
@@ -413,7 +368,7 @@ fn serve_each<R: Threads + Sync, L: Link, D: Disk + Drop, G: Gate>(
             return end_serving(alloc, desk);
         }
         let sent = serve_event(rt, alloc, desk, &mut connections, link, gate, &event);
-        if is_over(desk) {
+        if desk.closed() {
             return Err(ServeFault::Disk);
         }
         let stops = match sent {

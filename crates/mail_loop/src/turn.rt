@@ -15,17 +15,16 @@
 //!
 //! The session is told of an outcome again, as of want of memory, only after a refusal (`is_refused`). After an item that is
 //! kept, and after a failed seal, the connection closes without that answer.
-ghost use Rattle.std.specs.Prelude.{◌≡◌, ◌++◌, is_some, true, false, IfOk, IsTrue, OnErr};
+ghost use Rattle.std.specs.Prelude.{◌≡◌, is_some, true, false, IfOk, IsTrue, OnErr};
 ghost use Rattle.std.specs.List.{list_all};
 ghost use Rattle.verb_core.specs.declared.conf.House.{House as TheHouse};
 ghost use Rattle.verb_core.specs.Live.{is_users};
 ghost use Rattle.store_kept.specs.Kept.{store_of, Kept};
 ghost use Rattle.store_kept.specs.Texts.{has_text_kept};
-ghost use Rattle.mail_loop.specs.Afterwards.{gone_between};
 ghost use Rattle.mail_loop.specs.Asked.{HaveSealed};
 ghost use Rattle.mail_loop.specs.Session.{done, followed, is_home, is_said, pursued, submits, took};
 ghost use Rattle.mail_loop.specs.Hindrance.{Hindrance, under};
-ghost use Rattle.mail_loop.specs.Took.{AreThere, AsksAs, IsAwaitedLast, IsDueNext, IsLast, IsNext, IsTold, ReadsNone, ReadsOutOfMemory, Settles, SettlesAgain, SettlesOrAsks, Submits, Takes, TakesTexts, asked_in};
+ghost use Rattle.mail_loop.specs.Took.{AreThere, AsksAs, IsAwaitedLast, IsDueNext, IsLast, IsNext, IsTold, ReadsNone, ReadsOutOfMemory, SettlesAgain, SettlesOrAsks, Takes, TakesTexts, asked_in};
 
 use crate::asking::{ask_desk, is_refused};
 use crate::out::Out;
@@ -52,7 +51,7 @@ pub fn close<S: Speaks>(session: &mut S, reply: &mut Reply)
 }
 
 /// What is said goes into the reply. Gives what is asked.
-fn tell_or_ask(reply: &mut Reply, out: Out) -> Option<Ask>
+fn tell(reply: &mut Reply, out: Out) -> Option<Ask>
     ensures told { IsTold out reply.old reply.new }
     ensures asks { result ≡ asked_in out }
 {
@@ -68,13 +67,6 @@ fn tell_or_ask(reply: &mut Reply, out: Out) -> Option<Ask>
         Out::Read(_) => None,
         Out::Submit(ask) => Some(ask),
     }
-}
-
-/// What is said goes into the reply.
-fn tell(reply: &mut Reply, out: Out)
-    ensures { IsTold out reply.old reply.new }
-{
-    let _none = tell_or_ask(reply, out);
 }
 
 /// The session takes an outcome over what the desk keeps.
@@ -114,7 +106,9 @@ fn settle_again<S: Speaks, D: Disk + Drop>(
     }
     let out_of_memory = Err(SubmitFault::Refused(Refused::NoMemory));
     match settle_with(alloc, desk, session, &out_of_memory) {
-        Ok(out) => tell(reply, out),
+        Ok(out) => {
+            let _none = tell(reply, out);
+        }
         Err(NoMemory) => close(session, reply),
     }
 }
@@ -135,51 +129,12 @@ fn settle<S: Speaks, D: Disk + Drop>(
     ensures settled { SettlesOrAsks S.speech outcome.now desk.now.kept session.old reply.old session.new reply.new result }
 {
     match settle_with(alloc, desk, session, outcome) {
-        Ok(out) => tell_or_ask(reply, out),
+        Ok(out) => tell(reply, out),
         Err(NoMemory) => {
             settle_again(alloc, desk, session, is_refused(outcome), reply);
             None
         }
     }
-}
-
-/// Tells the session what became of its last ask, which leads to no further one.
-fn settle_last<S: Speaks, D: Disk + Drop>(
-    alloc: Global,
-    desk: &Desk<D>,
-    session: &mut S,
-    outcome: &Result<Item, SubmitFault>,
-    reply: &mut Reply,
-)
-    requires due { S.speech.is_due session.old ≡ true }
-    requires last { IsLast S.speech session.old }
-    requires stays { reply.old.closes ≡ false }
-    requires home { is_home S.speech desk.now.kept.house session.old ≡ true }
-    ensures free { S.speech.is_free session.new ≡ true }
-    ensures home { is_home S.speech desk.now.kept.house session.new ≡ true }
-    ensures settled { Settles S.speech outcome.now desk.now.kept session.old reply.old session.new reply.new }
-{
-    let _none = settle(alloc, desk, session, outcome, reply);
-}
-
-/// Asks the desk for who is logged in.
-fn ask_for<S: Speaks, D: Disk + Drop>(
-    alloc: Global,
-    desk: &mut Desk<D>,
-    session: &S,
-    at: u64,
-    ask: Ask,
-    reply: &mut Reply,
-) -> Result<Item, SubmitFault>
-    requires user { is_users ask ≡ is_some (S.speech.user session.now) }
-    requires home { is_home S.speech desk.old.kept.house session.now ≡ true }
-    requires sealed { desk.old.closed ≡ false }
-    ensures did { Submits (HaveSealed D.told desk.old desk.new) at desk.old.kept (S.speech.user session.now) ask desk.new.kept result }
-    ensures noted { reply.new ≡ record reply.old { gone = reply.old.gone ++ gone_between desk.old.kept desk.new.kept } }
-    ensures home { is_home S.speech desk.new.kept.house session.now ≡ true }
-    ensures house { desk.new.kept.house ≡ desk.old.kept.house }
-{
-    ask_desk(alloc, desk, at, session.asker(), ask, reply)
 }
 
 /// Asks the desk what the outcome of an ask led to: a turn of its own. The first stays done, whatever becomes of this.
@@ -203,8 +158,8 @@ fn submit_further<S: Speaks, D: Disk + Drop>(
     ensures turn { (h : Hindrance) ×
         Takes (HaveSealed D.told desk.old desk.new) (under h at desk.old.kept (λ service. done S.speech desk.old.kept session.old (service.asked (S.speech.user session.old) ask))) reply.old desk.new.kept session.new reply.new }
 {
-    let last = ask_for(alloc, desk, session, at, ask, reply);
-    settle_last(alloc, desk, session, &last, reply);
+    let last = ask_desk(alloc, desk, session, at, ask, reply);
+    let _none = settle(alloc, desk, session, &last, reply);
 }
 
 /// Asks the desk for who is logged in, and tells the session what became of that. Where that leads to a further ask the desk is asked
@@ -229,7 +184,7 @@ fn submit<S: Speaks, D: Disk + Drop>(
         Takes (HaveSealed D.told desk.old desk.new) (under h at desk.old.kept (λ service. pursued S.speech service desk.old.kept session.old (service.asked (S.speech.user session.old) ask))) reply.old desk.new.kept session.new reply.new }
 {
     seals_join::<D>();
-    let outcome = ask_for(alloc, desk, session, at, ask, reply);
+    let outcome = ask_desk(alloc, desk, session, at, ask, reply);
     match settle(alloc, desk, session, &outcome, reply) {
         None => {}
         Some(further) => submit_further(alloc, desk, session, at, further, reply),
@@ -274,7 +229,9 @@ pub fn read_out_of_memory<S: Speaks>(alloc: Global, session: &mut S, reply: &mut
     ensures read { (kept : Kept) → ReadsOutOfMemory S.speech kept session.old reply.old session.new reply.new }
 {
     match session.take_texts(alloc, &Err(ReadFault::NoMemory)) {
-        Ok(out) => tell(reply, out),
+        Ok(out) => {
+            let _none = tell(reply, out);
+        }
         Err(NoMemory) => close(session, reply),
     }
 }
@@ -288,7 +245,9 @@ fn read_none<S: Speaks>(alloc: Global, session: &mut S, why: ReadFault, reply: &
     ensures read { (kept : Kept) → ReadsNone S.speech why kept session.old reply.old session.new reply.new }
 {
     match session.take_texts(alloc, &Err(why)) {
-        Ok(out) => tell(reply, out),
+        Ok(out) => {
+            let _none = tell(reply, out);
+        }
         Err(NoMemory) => read_out_of_memory(alloc, session, reply),
     }
 }

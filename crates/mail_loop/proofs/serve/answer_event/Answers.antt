@@ -1,4 +1,6 @@
-use Rattle.std.proofs.Common.{false, [], None, Ok, ap, refl, sym, subst, min}
+use Rattle.std.proofs.Common.{false, [], None, Ok, Err, Result, ap, refl, sym, subst, min}
+use Rattle.std.proofs.lemmas.Result.{err_from_is_err_and}
+use Rattle.undo_base.specs.declared.memory.NoMemory.{NoMemory as WantOfMemory}
 use Rattle.undo_outside.specs.declared.event.What.{What}
 use Rattle.mail_loop.specs.declared.serve.Answer.{Answer}
 use Rattle.mail_loop.specs.Asked.{HaveSealed}
@@ -6,7 +8,6 @@ use Rattle.mail_loop.specs.State.{State}
 use Rattle.mail_loop.specs.Machine.{answered, answers}
 use Rattle.mail_loop.specs.Did.{Answers}
 use Rattle.mail_loop.specs.Stands.{replies_of}
-use Rattle.mail_loop.proofs.Events.{going_answers}
 use Rattle.mail_loop.proofs.Sealed.{none_sealed, unsealed}
 use Rattle.mail_loop.proofs.serve.answer_event.Goals as goal
 
@@ -17,15 +18,36 @@ returns-in-Joined-clause-answers g c =
     let es = c.args.connections.now.entries in
     let S = HaveSealed g.D.Disk.told desk desk in
     let s : State = record { kept = desk.kept; seats = es } in
-    let (no_memory, joined) = c.join.ensures.answers in (
+    let (no_memory, joined) = c.in_ok-letters.ensures.answers in
+    let answer : Answer = record { letters = c.in_ok-letters.letters; stops = false } in (
       no_memory,
       [],
       Ok None,
-      going_answers S (answered no_memory [] (Ok None) s event) desk.kept c.join.new.connections.entries (λ replies. replies_of replies.items) (λ (answer : Answer). answer.letters) (λ (answer : Answer). answer.stops)
-          c.join.result c.going_on_with.result c.going_on_with.ensures.ok c.going_on_with.ensures.err
-          (subst (λ (what : What). Answers S (answers what no_memory [] (Ok None) (min event.at 253402300799) s event.conn) desk.kept c.join.new.connections.entries (λ replies. replies_of replies.items) (λ _. false) c.join.result)
-          (sym c.in-Joined.is) (joined.0, none_sealed S _ _ joined.1 (unsealed g.D.Disk.told c.seals_join.ensures.nothing desk), joined.2)),
+      subst (λ (what : What). Answers S (answers what no_memory [] (Ok None) (min event.at 253402300799) s event.conn) desk.kept c.join.new.connections.entries (λ answer. replies_of answer.letters.items) (λ answer. answer.stops) (Ok answer))
+          (sym c.in-Joined.is) (joined.0, none_sealed S _ _ joined.1 (unsealed g.D.Disk.told c.seals_join.ensures.nothing desk), joined.2),
     )
+
+-- no memory was found for what the client is told
+pub returns-in_err-letters-clause-answers : goal.returns-in_err-letters-clause-answers
+returns-in_err-letters-clause-answers g c =
+    let event = c.args.event.now in
+    let desk = c.args.desk.now in
+    let es = c.args.connections.now.entries in
+    let S = HaveSealed g.D.Disk.told desk desk in
+    let s : State = record { kept = desk.kept; seats = es } in
+    let p = err_from_is_err_and c.from_residual.result c.from_residual.ensures.1 in
+    let (no_memory, joined) = c.in_err-letters.ensures.answers in
+    let is_so : What → Result Answer WantOfMemory → Type 0 =
+    λ what result. Answers S (answers what no_memory [] (Ok None) (min event.at 253402300799) s event.conn) desk.kept c.join.new.connections.entries (λ answer. replies_of answer.letters.items) (λ answer. answer.stops) result in (
+      no_memory,
+      [],
+      Ok None,
+      subst (is_so event.what) (sym p.1)
+          (subst (λ (what : What). is_so what (Err p.0)) (sym c.in-Joined.is) (joined.0, none_sealed S _ _ joined.1 (unsealed g.D.Disk.told c.seals_join.ensures.nothing desk), joined.2)),
+    )
+
+pub returns-in_err-letters-clause-home : goal.returns-in_err-letters-clause-home
+returns-in_err-letters-clause-home g c = c.join.ensures.home c.args.desk.now.kept.house c.requires.home
 
 pub returns-in-Joined-clause-home : goal.returns-in-Joined-clause-home
 returns-in-Joined-clause-home g c = c.join.ensures.home c.args.desk.now.kept.house c.requires.home

@@ -51,8 +51,8 @@ returns-then-is_end_of-clause-serves g c =
 pub returns-then-is_end_of-clause-closed : goal.returns-then-is_end_of-clause-closed
 returns-then-is_end_of-clause-closed g c = sym (ap is_disk c.end_serving.ensures.ends ∙ ends_disk c.end_serving.new.desk.closed)
 
-pub returns-then-is_over-clause-serves : goal.returns-then-is_over-clause-serves
-returns-then-is_over-clause-serves g c =
+pub returns-then-closed-clause-serves : goal.returns-then-closed-clause-serves
+returns-then-closed-clause-serves g c =
     let told = g.L.Link.told in
     let disk = g.D.Disk.told in
     let l = c.loop in
@@ -62,7 +62,7 @@ returns-then-is_over-clause-serves g c =
     (λ (h : Hindrances). GoesThrough disk (record { kept = l.desk.kept; seats = l.connections.entries }) (record { event = c.in-Ok.event; hindrances = h }) l.desk new.desk) (λ (q : List Step). WentThrough disk q c.args.desk.now new.desk) l.counter c.args.turns (told c.args.link.now) (told l.link) (told c.next.new.self) (told new.link) c.args.desk.now.kept
     new.desk.kept (record { kept = l.desk.kept; seats = l.connections.entries }) new.connections.entries c.in-Ok.event sent.result l.invariant.served c.loop-test.true c.in-Ok.ensures
     sent.ensures.leads
-    (λ failed counts seals. some_unsealed disk l.desk new.desk failed counts l.invariant.open' (sym c.is_over.ensures ∙ c.if-is_over.true) seals)
+    (λ failed counts seals. some_unsealed disk l.desk new.desk failed counts l.invariant.open' (sym c.closed.ensures ∙ c.if-closed.true) seals)
     (chained disk c.seals_join.ensures.then c.args.desk.now l.desk new.desk)
     (λ steps h through is kept went. one_more disk c.args.desk.now l.desk new.desk (record { kept = l.desk.kept; seats = l.connections.entries }) c.in-Ok.event steps h through is kept went)
 
@@ -77,7 +77,7 @@ returns-in-Err-clause-serves g c =
     (λ (h : Hindrances). GoesThrough disk (record { kept = l.desk.kept; seats = l.connections.entries }) (record { event = c.in-Ok.event; hindrances = h }) l.desk new.desk) (λ (q : List Step). WentThrough disk q c.args.desk.now new.desk) l.counter c.args.turns (told c.args.link.now) (told l.link) (told c.next.new.self) (told new.link) c.args.desk.now.kept
     new.desk.kept (record { kept = l.desk.kept; seats = l.connections.entries }) new.connections.entries c.in-Ok.event sent.result _ l.invariant.served c.loop-test.true c.in-Ok.ensures
     (sym c.is_end_of.ensures ∙ c.if-is_end_of.false) sent.ensures.leads c.in-Err.is
-    (λ failed counts seals. all_sealed disk l.desk new.desk failed counts l.invariant.open' (sym c.is_over.ensures ∙ c.if-is_over.false) seals)
+    (λ failed counts seals. all_sealed disk l.desk new.desk failed counts l.invariant.open' (sym c.closed.ensures ∙ c.if-closed.false) seals)
     (chained disk c.seals_join.ensures.then c.args.desk.now l.desk new.desk)
     (λ steps h through is kept went. one_more disk c.args.desk.now l.desk new.desk (record { kept = l.desk.kept; seats = l.connections.entries }) c.in-Ok.event steps h through is kept went)
 
@@ -92,7 +92,7 @@ returns-then-stops-clause-serves g c =
     (λ (h : Hindrances). GoesThrough disk (record { kept = l.desk.kept; seats = l.connections.entries }) (record { event = c.in-Ok.event; hindrances = h }) l.desk new.desk) (λ (q : List Step). WentThrough disk q c.args.desk.now new.desk) l.counter c.args.turns (told c.args.link.now) (told l.link) (told c.next.new.self) (told new.link) c.args.desk.now.kept
     new.desk.kept (record { kept = l.desk.kept; seats = l.connections.entries }) new.connections.entries c.in-Ok.event sent.result c.in-Ok-sent.stops l.invariant.served c.loop-test.true c.in-Ok.ensures
     (inr (sym c.is_end_of.ensures ∙ c.if-is_end_of.false, c.if-stops.true)) sent.ensures.leads c.in-Ok-sent.is
-    (λ failed counts seals. all_sealed disk l.desk new.desk failed counts l.invariant.open' (sym c.is_over.ensures ∙ c.if-is_over.false) seals)
+    (λ failed counts seals. all_sealed disk l.desk new.desk failed counts l.invariant.open' (sym c.closed.ensures ∙ c.if-closed.false) seals)
     (chained disk c.seals_join.ensures.then c.args.desk.now l.desk new.desk)
     (λ steps h through is kept went. one_more disk c.args.desk.now l.desk new.desk (record { kept = l.desk.kept; seats = l.connections.entries }) c.in-Ok.event steps h through is kept went)
 
@@ -109,11 +109,11 @@ loop-preserved g c =
           (λ (h : Hindrances). GoesThrough disk (record { kept = l.desk.kept; seats = l.connections.entries }) (record { event = c.in-Ok.event; hindrances = h }) l.desk new.desk) (λ (q : List Step). WentThrough disk q c.args.desk.now new.desk) l.counter (told c.args.link.now) (told l.link) (told c.next.new.self) (told new.link) c.args.desk.now.kept
           new.desk.kept s new.connections.entries c.in-Ok.event sent.result c.in-Ok-sent.stops
           l.invariant.served c.in-Ok.ensures (sym c.is_end_of.ensures ∙ c.if-is_end_of.false) sent.ensures.leads c.in-Ok-sent.is c.if-stops.false
-          (λ failed counts seals. all_sealed disk l.desk new.desk failed counts l.invariant.open' (sym c.is_over.ensures ∙ c.if-is_over.false) seals)
+          (λ failed counts seals. all_sealed disk l.desk new.desk failed counts l.invariant.open' (sym c.closed.ensures ∙ c.if-closed.false) seals)
           (chained disk c.seals_join.ensures.then c.args.desk.now l.desk new.desk)
           (λ steps h through is kept went. one_more disk c.args.desk.now l.desk new.desk (record { kept = l.desk.kept; seats = l.connections.entries }) c.in-Ok.event steps h through is kept went);
       home = sent.ensures.home;
-      open' = sym c.is_over.ensures ∙ c.if-is_over.false;
+      open' = sym c.closed.ensures ∙ c.if-closed.false;
     }
 
 pub returns-in-Err-Failed-clause-serves : goal.returns-in-Err-Failed-clause-serves

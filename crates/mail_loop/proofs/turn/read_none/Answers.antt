@@ -5,7 +5,7 @@ use Rattle.mail_loop.proofs.turn.read_none.Goals as goal
 
 pub returns-in-Ok-clause-read : goal.returns-in-Ok-clause-read
 returns-in-Ok-clause-read g c kept =
-    read_not g.S.Speaks.speech c.args.why kept c.args.session.now c.take_texts.new.self c.in-Ok.out c.args.reply.now c.tell.new.reply c.requires.stays c.in-Ok.ensures.ok c.tell.ensures
+    read_not g.S.Speaks.speech c.args.why kept c.args.session.now c.take_texts.new.self c.in-Ok.out c.args.reply.now c.tell-none.new.reply c.requires.stays c.in-Ok.ensures.ok c.tell-none.ensures.told
 
 pub returns-clause-read : goal.returns-clause-read
 returns-clause-read g c kept =

@@ -5,12 +5,12 @@ use Rattle.mail_loop.proofs.turn.settle.Goals as goal
 
 pub returns-in-Ok-clause-next : goal.returns-in-Ok-clause-next
 returns-in-Ok-clause-next g c =
-    due_next g.S.Speaks.speech c.settle_with.new.session c.in-Ok.out c.tell_or_ask.result c.in-Ok.ensures.next c.in-Ok.ensures.user c.tell_or_ask.ensures.asks
+    due_next g.S.Speaks.speech c.settle_with.new.session c.in-Ok.out c.tell.result c.in-Ok.ensures.next c.in-Ok.ensures.user c.tell.ensures.asks
 
 pub returns-in-Ok-clause-settled : goal.returns-in-Ok-clause-settled
 returns-in-Ok-clause-settled g c =
-    settles_or_asks g.S.Speaks.speech c.args.outcome.now c.args.desk.now.kept c.args.session.now c.settle_with.new.session c.in-Ok.out c.args.reply.now c.tell_or_ask.new.reply c.tell_or_ask.result
-    c.requires.stays c.in-Ok.ensures.ok c.in-Ok.ensures.next c.tell_or_ask.ensures.told c.tell_or_ask.ensures.asks
+    settles_or_asks g.S.Speaks.speech c.args.outcome.now c.args.desk.now.kept c.args.session.now c.settle_with.new.session c.in-Ok.out c.args.reply.now c.tell.new.reply c.tell.result
+    c.requires.stays c.in-Ok.ensures.ok c.in-Ok.ensures.next c.tell.ensures.told c.tell.ensures.asks
 
 pub returns-in-Err-clause-settled : goal.returns-in-Err-clause-settled
 returns-in-Err-clause-settled g c =

@@ -9,5 +9,5 @@ returns-in-Ok-clause-free g c =
 
 pub returns-in-Ok-clause-settled : goal.returns-in-Ok-clause-settled
 returns-in-Ok-clause-settled g c =
-    again_told g.S.Speaks.speech c.args.was_refused c.args.desk.now.kept c.args.session.now c.settle_with.new.session c.in-Ok.out c.args.reply.now c.tell.new.reply
-    c.requires.stays c.if-not-was_refused.false c.in-Ok.ensures.ok c.tell.ensures
+    again_told g.S.Speaks.speech c.args.was_refused c.args.desk.now.kept c.args.session.now c.settle_with.new.session c.in-Ok.out c.args.reply.now c.tell-none.new.reply
+    c.requires.stays c.if-not-was_refused.false c.in-Ok.ensures.ok c.tell-none.ensures.told

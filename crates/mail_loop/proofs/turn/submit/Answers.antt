@@ -9,7 +9,7 @@ use Rattle.mail_loop.proofs.Taken.{none_gone_of}
 use Rattle.mail_loop.proofs.turn.submit.Goals as goal
 
 pub returns-clause-house : goal.returns-clause-house
-returns-clause-house g c = c.submit_further.ensures.house ∙ c.ask_for-outcome.ensures.house
+returns-clause-house g c = c.submit_further.ensures.house ∙ c.ask_desk-outcome.ensures.house
 
 pub submit_further-requires-clause-due : goal.submit_further-requires-clause-due
 submit_further-requires-clause-due g c = (due_if_some g.S.Speaks.speech c.settle.new.session c.settle.result c.in-Some.further c.in-Some.is c.settle.ensures.next).0
@@ -19,13 +19,13 @@ submit_further-requires-clause-user g c = (due_if_some g.S.Speaks.speech c.settl
 
 pub submit_further-requires-clause-last : goal.submit_further-requires-clause-last
 submit_further-requires-clause-last g c =
-    let submit = c.ask_for-outcome in
+    let submit = c.ask_desk-outcome in
     let asks = subst (λ (o : Option Ask). SettlesOrAsks g.S.Speaks.speech submit.result submit.new.desk.kept c.args.session.now submit.new.reply c.settle.new.session c.settle.new.reply o) c.in-Some.is c.settle.ensures.settled in
     last_after g.S.Speaks.speech submit.new.desk.kept c.args.session.now c.settle.new.session submit.result c.in-Some.further c.requires.due asks.0
 
 pub submit_further-requires-clause-sealed : goal.submit_further-requires-clause-sealed
 submit_further-requires-clause-sealed g c =
-    let submit = c.ask_for-outcome in
+    let submit = c.ask_desk-outcome in
     let told = g.D.Disk.told in
     let kept = c.args.desk.now.kept in
     let asks = subst (λ (o : Option Ask). SettlesOrAsks g.S.Speaks.speech submit.result submit.new.desk.kept c.args.session.now submit.new.reply c.settle.new.session c.settle.new.reply o) c.in-Some.is c.settle.ensures.settled in
@@ -38,7 +38,7 @@ returns-in-None-clause-free g c = free_if_none g.S.Speaks.speech c.settle.new.se
 
 pub returns-in-None-clause-turn : goal.returns-in-None-clause-turn
 returns-in-None-clause-turn g c =
-    let submit = c.ask_for-outcome in
+    let submit = c.ask_desk-outcome in
     let speech = g.S.Speaks.speech in
     let kept = c.args.desk.now.kept in
     let d = c.args.session.now in
@@ -48,7 +48,7 @@ returns-in-None-clause-turn g c =
 
 pub returns-clause-turn : goal.returns-clause-turn
 returns-clause-turn g c =
-    let submit = c.ask_for-outcome in
+    let submit = c.ask_desk-outcome in
     let further = c.submit_further.new in
     let speech = g.S.Speaks.speech in
     let told = g.D.Disk.told in

@@ -3,7 +3,7 @@ use Rattle.mail_loop.specs.Machine.{told_others}
 use Rattle.mail_loop.specs.Stands.{replies_of}
 use Rattle.mail_loop.specs.declared.aftermath.Aftermath.{Aftermath}
 use Rattle.mail_loop.proofs.Placing.{none_told, quiet_is}
-use Rattle.mail_loop.proofs.letters.letters_beside.Goals as goal
+use Rattle.mail_loop.proofs.letters.letters_to_others.Goals as goal
 
 pub returns-then-is_quiet-clause-letters : goal.returns-then-is_quiet-clause-letters
 returns-then-is_quiet-clause-letters c =
