@@ -12,11 +12,11 @@ use Rattle.mail_loop.proofs.Sealed.{did_submit, unsealed}
 use Rattle.mail_loop.proofs.Taken.{none_gone_of, noted_unless_done, noted_where_done}
 use Rattle.mail_loop.proofs.asking.ask_desk.Goals as goal
 
-pub submit-requires-clause-by : goal.submit-requires-clause-by
-submit-requires-clause-by g c = asker_of c.asker-by.result (is_users c.args.ask) (c.requires.user ∙ ap (λ (u : Option User). is_some u) (sym c.asker-by.ensures))
+pub submit-outcome-requires-clause-by : goal.submit-outcome-requires-clause-by
+submit-outcome-requires-clause-by g c = asker_of c.asker-by.result (is_users c.args.ask) (c.requires.user ∙ ap (λ (u : Option User). is_some u) (sym c.asker-by.ensures))
 
-pub submit-requires-clause-known : goal.submit-requires-clause-known
-submit-requires-clause-known g c =
+pub submit-outcome-requires-clause-known : goal.submit-outcome-requires-clause-known
+submit-outcome-requires-clause-known g c =
     let house = c.args.desk.now.kept.house in
     ap (λ (u : Option User). list_all (is_known house) (cons_option u [])) c.asker-by.ensures ∙ asker_known g.S.Speaks.speech house c.args.session.now c.requires.home
 

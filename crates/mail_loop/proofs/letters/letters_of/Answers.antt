@@ -1,6 +1,7 @@
-use Rattle.std.proofs.Common.{◌≡◌, ◌≤◌, ℕ, List, Option, length, nat_lt, unwrap_or, ap, subst, sym, ◌∙◌}
+use Rattle.std.proofs.Common.{◌≡◌, ◌≤◌, ℕ, List, Option, length, nat_lt, unwrap_or, ap, refl, subst, sym, ◌∙◌}
 use Rattle.std.specs.List.{insert, position, position_or_len}
 use Rattle.mail_loop.specs.declared.letters.Letter.{Letter}
+use Rattle.mail_loop.specs.declared.letters.Said.TheVariants.{Answers}
 use Rattle.mail_loop.specs.Machine.{Reply, with_reply}
 use Rattle.mail_loop.specs.Stands.{replies_of, reply_of}
 use Rattle.mail_loop.proofs.Placing.{place_is, place_within, with_placed}
@@ -20,7 +21,7 @@ with_letter-requires-clause-place c =
 pub returns : goal.returns
 returns c =
     let turned = c.args.turned in
-    let own : Letter = c.letter in
+    let own : Letter = record { conn = turned.conn; said = Answers turned.said; closes = turned.closes } in
     let items = c.letters_to_others-letters.result.items in
     let is = c.unwrap_or-place.ensures
     ∙ ap (λ (o : Option ℕ). unwrap_or o c.len.result) (c.first_behind.ensures ∙ ap (λ (ls : List Letter). position (λ (l : Letter). nat_lt turned.conn l.conn) ls) c.as_slice.ensures.value)
