@@ -1,6 +1,6 @@
 -- What the code does for an event is what the machine does.
 use Rattle.std.specs.Prelude.{if◌then◌else◌}
-use Rattle.std.proofs.Common.{◌≡◌, ◌&&◌, ℕ, min, Bool, true, false, nat_le, not, List, [], ◌∷◌, None, Some, Option, Result, Ok, Err, IfOk, IfErr, inl, inr, refl, ap, subst, sym, ◌∙◌}
+use Rattle.std.proofs.Common.{◌≡◌, ◌&&◌, ℕ, min, Bool, true, false, nat_le, not, List, [], ◌∷◌, None, Some, Option, Result, Ok, Err, inl, inr, refl, ap, subst, sym, ◌∙◌}
 use Rattle.std.specs.Ordering.{nat_cmp}
 use Rattle.std.specs.Map.{lookup, remove_entry, set_value}
 use Rattle.std.specs.BTreeMap.{is_at}

@@ -170,7 +170,8 @@ pub fn letters_of(
         aftermath,
     } = turned;
     let letters = letters_to_others(room, connections, conn, &aftermath);
-    let place = first_behind(own, letters.as_slice()).unwrap_or(letters.len());
+    let others = letters.as_slice();
+    let place = first_behind(own, others).unwrap_or(others.len());
     let letter = Letter {
         conn: own,
         said: Said::Answers(said),

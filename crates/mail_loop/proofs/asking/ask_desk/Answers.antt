@@ -1,4 +1,4 @@
-use Rattle.std.proofs.Common.{ℕ, List, Option, [], ◌++◌, append-nil, inl, is_some, map, take, length, ap, refl, subst, sym, ◌∙◌}
+use Rattle.std.proofs.Common.{ℕ, List, Option, [], ◌++◌, append-nil, inl, is_some, map, take, ap, refl, subst, sym, ◌∙◌}
 use Rattle.std.specs.List.{cons_option, list_all}
 use Rattle.undo_base.specs.declared.keys.User.{User}
 use Rattle.verb_core.specs.declared.mailbox.BoxId.{BoxId}

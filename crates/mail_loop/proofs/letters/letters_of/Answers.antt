@@ -1,4 +1,4 @@
-use Rattle.std.proofs.Common.{◌≡◌, ◌≤◌, ℕ, List, Option, length, nat_lt, unwrap_or, ap, refl, subst, sym, ◌∙◌}
+use Rattle.std.proofs.Common.{◌≤◌, ℕ, List, Option, length, nat_lt, unwrap_or, ap, refl, subst, sym, ◌∙◌}
 use Rattle.std.specs.List.{insert, position, position_or_len}
 use Rattle.mail_loop.specs.declared.letters.Letter.{Letter}
 use Rattle.mail_loop.specs.declared.letters.Said.TheVariants.{Answers}
@@ -11,11 +11,13 @@ use Rattle.mail_loop.proofs.letters.letters_of.Goals as goal
 pub with_letter-requires-clause-place : goal.with_letter-requires-clause-place
 with_letter-requires-clause-place c =
     let own = c.args.turned.conn in
-    let items = c.letters_to_others-letters.result.items in
+    let others = c.as_slice-others.result.now in
     let is = c.unwrap_or-place.ensures
-    ∙ ap (λ (o : Option ℕ). unwrap_or o c.len.result) (c.first_behind.ensures ∙ ap (λ (ls : List Letter). position (λ (l : Letter). nat_lt own l.conn) ls) c.as_slice.ensures.value)
-    ∙ ap (λ (n : ℕ). unwrap_or (position (λ (l : Letter). nat_lt own l.conn) items) n) c.len.ensures
-    ∙ place_is (λ (l : Letter). nat_lt own l.conn) items in
+    ∙ ap (λ (o : Option ℕ). unwrap_or o c.len.result) c.first_behind.ensures
+    ∙ ap (λ (n : ℕ). unwrap_or (position (λ (l : Letter). nat_lt own l.conn) others) n) c.len.ensures
+    ∙ place_is (λ (l : Letter). nat_lt own l.conn) others
+    ∙ ap (λ (ls : List Letter). position_or_len (λ (l : Letter). nat_lt own l.conn) ls) c.as_slice-others.ensures.value in
+    let items = c.letters_to_others-letters.result.items in
     subst (λ (n : ℕ). n ≤ length items) (sym is) (place_within (λ (l : Letter). nat_lt own l.conn) items)
 
 pub returns : goal.returns
@@ -23,10 +25,12 @@ returns c =
     let turned = c.args.turned in
     let own : Letter = record { conn = turned.conn; said = Answers turned.said; closes = turned.closes } in
     let items = c.letters_to_others-letters.result.items in
+    let others = c.as_slice-others.result.now in
     let is = c.unwrap_or-place.ensures
-    ∙ ap (λ (o : Option ℕ). unwrap_or o c.len.result) (c.first_behind.ensures ∙ ap (λ (ls : List Letter). position (λ (l : Letter). nat_lt turned.conn l.conn) ls) c.as_slice.ensures.value)
-    ∙ ap (λ (n : ℕ). unwrap_or (position (λ (l : Letter). nat_lt turned.conn l.conn) items) n) c.len.ensures
-    ∙ place_is (λ (l : Letter). nat_lt turned.conn l.conn) items in
+    ∙ ap (λ (o : Option ℕ). unwrap_or o c.len.result) c.first_behind.ensures
+    ∙ ap (λ (n : ℕ). unwrap_or (position (λ (l : Letter). nat_lt turned.conn l.conn) others) n) c.len.ensures
+    ∙ place_is (λ (l : Letter). nat_lt turned.conn l.conn) others
+    ∙ ap (λ (ls : List Letter). position_or_len (λ (l : Letter). nat_lt turned.conn l.conn) ls) c.as_slice-others.ensures.value in
     ap replies_of c.with_letter.ensures
     ∙ ap (λ (n : ℕ). replies_of (insert items n own)) is
     ∙ with_placed own turned.conn items refl

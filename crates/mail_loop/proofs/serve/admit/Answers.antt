@@ -8,25 +8,25 @@ use Rattle.mail_loop.specs.Stands.{letter_of, replies_of}
 use Rattle.mail_loop.proofs.Joining.{left_ungreeted, opened_with, out_of_memory_greeting, tells_as, unopened}
 use Rattle.mail_loop.proofs.serve.admit.Goals as goal
 
-pub returns-in-Ok-Some-clause-answers : goal.returns-in-Ok-Some-clause-answers
-returns-in-Ok-Some-clause-answers g c =
+pub returns-in_ok-letters-in-Ok-Some-clause-answers : goal.returns-in_ok-letters-in-Ok-Some-clause-answers
+returns-in_ok-letters-in-Ok-Some-clause-answers g c =
     let es = c.args.connections.now.entries in
     let kept = c.args.desk.now.kept in
     let s : State = record { kept = kept; seats = es } in
     let row = row_of c.args.role in
-    let letters = c.in_ok-letters.letters in
+    let letters = c.in_ok-letters-in-Ok-Some.letters in
     let greeting : Reply = record { conn = c.args.conn; said = c.in-Ok-Some.greeting; closes = false } in (
       false,
       opened_with (admitted false s c.args.conn row.fresh (row.greeting kept.house)) kept es c.enter.new.connections.entries c.args.conn row.fresh (greeting ∷ []) (λ replies. replies_of replies.items) c.enter.result
           (ap (λ (h : House). admitted false s c.args.conn row.fresh (row.greeting h)) (sym c.house.ensures.value)
           ∙ ap (λ (o : Option (List ℕ)). admitted false s c.args.conn row.fresh o) (sym c.in-Ok-Some.ensures.ok ∙ c.in-Ok-Some.field-0-is))
           (tells_as c.args.conn row.fresh (replies_of letters.items) (greeting ∷ []) es c.enter.new.connections.entries (λ replies. replies_of replies.items) c.enter.result
-          (c.in_ok-letters.ensures ∙ ap (λ (r : Reply). r ∷ []) c.greeting_to.ensures) c.enter.ensures.opens),
+          (c.in_ok-letters-in-Ok-Some.ensures ∙ ap (λ (r : Reply). r ∷ []) c.greeting_to.ensures) c.enter.ensures.opens),
     )
 
 -- no memory was found for the greeting's place
-pub returns-in_err-letters-clause-answers : goal.returns-in_err-letters-clause-answers
-returns-in_err-letters-clause-answers g c =
+pub returns-in_err-letters-in-Ok-Some-clause-answers : goal.returns-in_err-letters-in-Ok-Some-clause-answers
+returns-in_err-letters-in-Ok-Some-clause-answers g c =
     let es = c.args.connections.now.entries in
     let kept = c.args.desk.now.kept in
     let s : State = record { kept = kept; seats = es } in
@@ -60,7 +60,7 @@ returns-in-Err-clause-answers g c =
     let s : State = record { kept = kept; seats = es } in
     let row = row_of c.args.role in (
       true,
-      left_ungreeted (admitted true s c.args.conn row.fresh (row.greeting kept.house)) kept es c.args.conn (letter_of c.ungreeted.result) (λ replies. replies_of replies.items) c.alone.result
+      left_ungreeted (admitted true s c.args.conn row.fresh (row.greeting kept.house)) kept es c.args.conn (letter_of c.ungreeted.result) (λ replies. replies_of replies.items) c.alone-in-Err.result
           (ap (λ (h : House). admitted true s c.args.conn row.fresh (row.greeting h)) (sym c.house.ensures.value)
-          ∙ out_of_memory_greeting s c.args.conn row.fresh (row.greeting c.house.result.now) c.in-Err.ensures.err) c.ungreeted.ensures c.alone.ensures,
+          ∙ out_of_memory_greeting s c.args.conn row.fresh (row.greeting c.house.result.now) c.in-Err.ensures.err) c.ungreeted.ensures c.alone-in-Err.ensures,
     )

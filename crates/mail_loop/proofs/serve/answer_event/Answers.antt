@@ -5,21 +5,21 @@ use Rattle.undo_outside.specs.declared.event.What.{What}
 use Rattle.mail_loop.specs.declared.serve.Answer.{Answer}
 use Rattle.mail_loop.specs.Asked.{HaveSealed}
 use Rattle.mail_loop.specs.State.{State}
-use Rattle.mail_loop.specs.Machine.{answered, answers}
+use Rattle.mail_loop.specs.Machine.{answers}
 use Rattle.mail_loop.specs.Did.{Answers}
 use Rattle.mail_loop.specs.Stands.{replies_of}
 use Rattle.mail_loop.proofs.Sealed.{none_sealed, unsealed}
 use Rattle.mail_loop.proofs.serve.answer_event.Goals as goal
 
-pub returns-in-Joined-clause-answers : goal.returns-in-Joined-clause-answers
-returns-in-Joined-clause-answers g c =
+pub returns-in_ok-letters-in-Joined-clause-answers : goal.returns-in_ok-letters-in-Joined-clause-answers
+returns-in_ok-letters-in-Joined-clause-answers g c =
     let event = c.args.event.now in
     let desk = c.args.desk.now in
     let es = c.args.connections.now.entries in
     let S = HaveSealed g.D.Disk.told desk desk in
     let s : State = record { kept = desk.kept; seats = es } in
-    let (no_memory, joined) = c.in_ok-letters.ensures.answers in
-    let answer : Answer = record { letters = c.in_ok-letters.letters; stops = false } in (
+    let (no_memory, joined) = c.in_ok-letters-in-Joined.ensures.answers in
+    let answer : Answer = record { letters = c.in_ok-letters-in-Joined.letters; stops = false } in (
       no_memory,
       [],
       Ok None,
@@ -28,15 +28,15 @@ returns-in-Joined-clause-answers g c =
     )
 
 -- no memory was found for what the client is told
-pub returns-in_err-letters-clause-answers : goal.returns-in_err-letters-clause-answers
-returns-in_err-letters-clause-answers g c =
+pub returns-in_err-letters-in-Joined-clause-answers : goal.returns-in_err-letters-in-Joined-clause-answers
+returns-in_err-letters-in-Joined-clause-answers g c =
     let event = c.args.event.now in
     let desk = c.args.desk.now in
     let es = c.args.connections.now.entries in
     let S = HaveSealed g.D.Disk.told desk desk in
     let s : State = record { kept = desk.kept; seats = es } in
     let p = err_from_is_err_and c.from_residual.result c.from_residual.ensures.1 in
-    let (no_memory, joined) = c.in_err-letters.ensures.answers in
+    let (no_memory, joined) = c.in_err-letters-in-Joined.ensures.answers in
     let is_so : What → Result Answer WantOfMemory → Type 0 =
     λ what result. Answers S (answers what no_memory [] (Ok None) (min event.at 253402300799) s event.conn) desk.kept c.join.new.connections.entries (λ answer. replies_of answer.letters.items) (λ answer. answer.stops) result in (
       no_memory,
@@ -46,11 +46,11 @@ returns-in_err-letters-clause-answers g c =
           (subst (λ (what : What). is_so what (Err p.0)) (sym c.in-Joined.is) (joined.0, none_sealed S _ _ joined.1 (unsealed g.D.Disk.told c.seals_join.ensures.nothing desk), joined.2)),
     )
 
-pub returns-in_err-letters-clause-home : goal.returns-in_err-letters-clause-home
-returns-in_err-letters-clause-home g c = c.join.ensures.home c.args.desk.now.kept.house c.requires.home
+pub returns-in_err-letters-in-Joined-clause-home : goal.returns-in_err-letters-in-Joined-clause-home
+returns-in_err-letters-in-Joined-clause-home g c = c.join.ensures.home c.args.desk.now.kept.house c.requires.home
 
-pub returns-in-Joined-clause-home : goal.returns-in-Joined-clause-home
-returns-in-Joined-clause-home g c = c.join.ensures.home c.args.desk.now.kept.house c.requires.home
+pub returns-in_ok-letters-in-Joined-clause-home : goal.returns-in_ok-letters-in-Joined-clause-home
+returns-in_ok-letters-in-Joined-clause-home g c = c.join.ensures.home c.args.desk.now.kept.house c.requires.home
 
 pub returns-in-Left-clause-home : goal.returns-in-Left-clause-home
 returns-in-Left-clause-home g c = c.keep_if.ensures.home c.args.desk.now.kept.house c.requires.home
