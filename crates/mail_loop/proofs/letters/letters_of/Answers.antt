@@ -1,5 +1,5 @@
 use Rattle.std.proofs.Common.{◌≤◌, ℕ, List, Option, length, nat_lt, unwrap_or, ap, refl, subst, sym, ◌∙◌}
-use Rattle.std.specs.List.{insert, position, position_or_len}
+use Rattle.std.specs.List.{insert, position_or_len}
 use Rattle.mail_loop.specs.declared.letters.Letter.{Letter}
 use Rattle.mail_loop.specs.declared.letters.Said.TheVariants.{Answers}
 use Rattle.mail_loop.specs.Machine.{Reply, with_reply}
@@ -13,8 +13,7 @@ with_letter-requires-clause-place c =
     let own = c.args.turned.conn in
     let others = c.as_slice-others.result.now in
     let is = c.unwrap_or-place.ensures
-    ∙ ap (λ (o : Option ℕ). unwrap_or o c.len.result) c.first_behind.ensures
-    ∙ ap (λ (n : ℕ). unwrap_or (position (λ (l : Letter). nat_lt own l.conn) others) n) c.len.ensures
+    ∙ ap (λ (o : Option ℕ). unwrap_or o (length others)) c.first_behind.ensures
     ∙ place_is (λ (l : Letter). nat_lt own l.conn) others
     ∙ ap (λ (ls : List Letter). position_or_len (λ (l : Letter). nat_lt own l.conn) ls) c.as_slice-others.ensures.value in
     let items = c.letters_to_others-letters.result.items in
@@ -27,8 +26,7 @@ returns c =
     let items = c.letters_to_others-letters.result.items in
     let others = c.as_slice-others.result.now in
     let is = c.unwrap_or-place.ensures
-    ∙ ap (λ (o : Option ℕ). unwrap_or o c.len.result) c.first_behind.ensures
-    ∙ ap (λ (n : ℕ). unwrap_or (position (λ (l : Letter). nat_lt turned.conn l.conn) others) n) c.len.ensures
+    ∙ ap (λ (o : Option ℕ). unwrap_or o (length others)) c.first_behind.ensures
     ∙ place_is (λ (l : Letter). nat_lt turned.conn l.conn) others
     ∙ ap (λ (ls : List Letter). position_or_len (λ (l : Letter). nat_lt turned.conn l.conn) ls) c.as_slice-others.ensures.value in
     ap replies_of c.with_letter.ensures
