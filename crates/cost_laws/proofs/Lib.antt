@@ -8,3 +8,6 @@ pub mod Sealed
 pub mod Texts
 pub mod Wanting
 pub mod Reading
+pub mod Seats
+pub mod Costs
+pub mod Visits

@@ -1,3 +1,4 @@
 pub mod Units
 pub mod Items
 pub mod Reads
+pub mod Courses
