@@ -18,9 +18,9 @@ use Rattle.verb_core.proofs.BoxLaws.{same_user-refl, tied}
 use Rattle.verb_core.proofs.FateLaws.{times_held-step, times_in-cons}
 use Rattle.verb_core.proofs.Validity.{step-IsValid}
 use Rattle.store_kept.specs.Kept.{Kept, store_of}
-use Rattle.desk_journal.specs.Permanence.{IsSound, Message}
+use Rattle.desk_journal.specs.Permanence.{IsSound, Message, message_at}
 use Rattle.time_desk.proofs.Messages.{there}
-use Rattle.journal_laws.specs.Keeping.{AllCame, NamedCame}
+use Rattle.journal_laws.specs.Keeping.{Came}
 
 -- ---- what is held was given, or was there
 
@@ -46,7 +46,7 @@ came_by base (i ∷ t) u key valid formed held = by (came_by (step base i).0 t u
     by (inl (before, j, later, split, given)) = inl (i ∷ before, j, later, ap (λ (l : List Item). i ∷ l) split, given)
     by (inr there) = came_first base i t u key valid formed.0 there
 
-pub all_came : (kept : Kept) → IsSound kept → AllCame kept
+pub all_came : (kept : Kept) → IsSound kept → (u : User) (key : Key) → times_held u key (store_of kept).boxes ≢ 0 → Came kept u key
 all_came kept sound u key held =
     came_by kept.base kept.timeline u key sound.base.stands.valid sound.base.stands.timeline.formed (subst (λ (s : MailStore). times_held u key s.boxes ≢ 0) sound.runs held)
 
@@ -81,7 +81,7 @@ found_held p (r ∷ rs) id box e here found =
       | false ↦ λ at here none. found_held p rs id box e here found (omega (arith, sum_by-cons count r rs, none))
     ] refl here
 
-pub named_came : (kept : Kept) → IsSound kept → NamedCame kept
+pub named_came : (kept : Kept) → IsSound kept → (id : BoxId) (stamp uid : ℕ) (m : Message) → message_at kept id stamp uid ≡ Some m → Came kept id.user m.key
 named_came kept sound id stamp uid m named =
     let found = there kept id stamp uid m named in
     all_came kept sound id.user m.key

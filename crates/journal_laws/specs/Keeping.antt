@@ -31,20 +31,7 @@ IsLeftBy records added kept = (count : ℕ) × (state (records ++ take count add
 abbrev pub NameOneMessage : Kept → Kept → Type 0
 NameOneMessage a b = (id : BoxId) (stamp uid : ℕ) (m n : Message) → message_at a id stamp uid ≡ Some m → message_at b id stamp uid ≡ Some n → m ≡ n
 
--- each message that is named has a text
-abbrev pub HaveTexts : Kept → Type 0
-HaveTexts kept = (id : BoxId) (stamp uid : ℕ) (m : Message) → message_at kept id stamp uid ≡ Some m → IsSome m.text
-
 -- ---- what an operator may rely on
-
--- each message that an item in force gave to a user lies there once, in one mailbox under one UID, or one later item took it out
-abbrev pub GivenAreAccounted : Kept → Type 0
-GivenAreAccounted kept = (before later : List Item) (i : Item) (u : User) (key : Key) → kept.timeline ≡ before ++ i ∷ later → times_given u key (run kept.base before) i ≢ 0 →
-    IsAccounted kept before i later u key
-
--- and so of each that lay in the base, whose past was cut off
-abbrev pub BasedAreAccounted : Kept → Type 0
-BasedAreAccounted kept = (u : User) (key : Key) → times_held u key kept.base.boxes ≢ 0 → IsAccountedFor kept u key
 
 -- a message came to a user: an item in force gave it, or it lay in the base
 abbrev pub Came : Kept → User → Key → Type 0
@@ -52,22 +39,18 @@ Came kept u key =
     ((before : List Item) × (i : Item) × (later : List Item) × (kept.timeline ≡ before ++ i ∷ later) × (times_given u key (run kept.base before) i ≢ 0))
     ⊎ (times_held u key kept.base.boxes ≢ 0)
 
--- nothing else lies with a user, nor is named by a UID
-abbrev pub AllCame : Kept → Type 0
-AllCame kept = (u : User) (key : Key) → times_held u key (store_of kept).boxes ≢ 0 → Came kept u key
-
-abbrev pub NamedCame : Kept → Type 0
-NamedCame kept = (id : BoxId) (stamp uid : ℕ) (m : Message) → message_at kept id stamp uid ≡ Some m → Came kept id.user m.key
+-- Of one state. Each message that came is accounted for: one that an item in force gave to a user lies there once, in one mailbox under one UID, or one
+-- later item took it out; and so one that lay in the base, whose past was cut off. Nothing else lies with a user, nor is named by a UID; and each
+-- message that is named has its text.
+pub record IsAccurate (kept : Kept) : Type 0 where
+  pub given : (before later : List Item) (i : Item) (u : User) (key : Key) → kept.timeline ≡ before ++ i ∷ later → times_given u key (run kept.base before) i ≢ 0
+      → IsAccounted kept before i later u key
+  pub based : (u : User) (key : Key) → times_held u key kept.base.boxes ≢ 0 → IsAccountedFor kept u key
+  pub came : (u : User) (key : Key) → times_held u key (store_of kept).boxes ≢ 0 → Came kept u key
+  pub named : (id : BoxId) (stamp uid : ℕ) (m : Message) → message_at kept id stamp uid ≡ Some m → Came kept id.user m.key
+  pub texts : (id : BoxId) (stamp uid : ℕ) (m : Message) → message_at kept id stamp uid ≡ Some m → IsSome m.text
 
 -- ---- the whole
-
--- of one state: each message that came is accounted for, and has its text
-pub record IsAccurate (kept : Kept) : Type 0 where
-  pub texts : HaveTexts kept
-  pub given : GivenAreAccounted kept
-  pub based : BasedAreAccounted kept
-  pub came : AllCame kept
-  pub named : NamedCame kept
 
 -- In every state that a run leaves a user, name, UIDVALIDITY and UID name one message and one text. Each message that was given lies once, or
 -- was taken by one item, and nothing else lies there.
