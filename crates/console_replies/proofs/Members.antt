@@ -1,19 +1,10 @@
--- A member that is put into an object.
-use Rattle.std.proofs.Common.{◌≡◌, ℕ, ◌+◌, ◌<◌, List, ◌∷◌, length, drop, get_or, add-one, drop-cons, Global, String, string_bytes, string_cmp, ◌∙◌, ap, refl}
-use Rattle.std.specs.BTreeMap.{insert_entry}
+-- Aliases that are put into an object.
+use Rattle.std.proofs.Common.{◌≡◌, ℕ, ◌+◌, ◌<◌, List, ◌∷◌, length, drop, get_or, add-one, drop-cons}
 use Rattle.std.specs.Prelude.{fold}
 use Rattle.verb_core.specs.declared.conf.Alias.{Alias}
 use Rattle.verb_core.specs.declared.conf.House.{House}
 use Rattle.console_replies.specs.Confs.{put_alias}
-use Rattle.serde_json.specs.Data.{put, Data, Members}
-use Rattle.serde_json.specs.declared.value.Value.{Value}
-use Rattle.serde_json.specs.View.{view, members_view}
-use Rattle.serde_json.proofs.Views.{Entry, members_view-insert_entry}
-
--- the object's members, with one that was inserted
-pub put_in : (es new : List Entry) (k : String Global) (v : Value) (key : List ℕ) (d : Data) → new ≡ insert_entry string_cmp es k v → string_bytes k ≡ key → view v ≡ d
-    → members_view new ≡ put key d (members_view es)
-put_in es new k v key d e f g = ap members_view e ∙ members_view-insert_entry es k v ∙ rw (f, g) refl
+use Rattle.serde_json.specs.Data.{Members}
 
 -- one more alias
 pub aliases_more : (house : House) (all : List Alias) (i : ℕ) (a : Alias) (ms new due : Members) → i < length all → new ≡ put_alias house ms (get_or all i a)

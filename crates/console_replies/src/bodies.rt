@@ -1,14 +1,16 @@
 //! The short bodies of answers.
 //!
 //! `Counts` of mail_desk are what a desk counts; `StatusCounts` are what the console tells of them.
-ghost use Rattle.std.specs.Prelude.{◌≡◌, IfOk, string_bytes};
+ghost use Rattle.std.specs.Prelude.{◌≡◌, IfOk, codes, true};
+ghost use Rattle.serde_json.specs.Data.{boolean, member, no_members, object, put, string};
 ghost use Rattle.serde_json.specs.View.{view};
 ghost use Rattle.serde_json.specs.Written.{compact_text};
-ghost use Rattle.console_replies.specs.Bodies.{status_data, body_data, number_data, items_data, stopped_data, upgraded_data, word_text, error_data, point_data, uncycled_data, numbers_data};
+ghost use Rattle.console_replies.specs.Bodies.{counted, status_data, body_data, number_data, items_data, stopped_data, upgraded_data, word_text, error_data, point_data, uncycled_data, numbers_data};
 
+use crate::objects::{with_number, with_text, with_value};
 use crate::text::text_of;
 use base64::engine::general_purpose::STANDARD;
-use serde_json::{Value, json};
+use serde_json::{Map, Value};
 use std::alloc::{AllocError, Global};
 use undo_base::{NoMemory, Text};
 
@@ -37,10 +39,13 @@ pub enum ErrorWord {
 fn status_value(alloc: Global, c: StatusCounts) -> Result<Value, AllocError>
     ensures { IfOk result (λ v. view v ≡ status_data c) }
 {
-    json!(in alloc; {
-        "cycles": c.cycles, "items": c.items, "messages": c.messages,
-        "next": c.next, "notices": c.notices, "users": c.users
-    })
+    let members = with_number(alloc, Map::new(alloc), "cycles", u64::from(c.cycles))?;
+    let members = with_number(alloc, members, "items", u64::from(c.items))?;
+    let members = with_number(alloc, members, "messages", c.messages)?;
+    let members = with_number(alloc, members, "next", u64::from(c.next))?;
+    let members = with_number(alloc, members, "notices", u64::from(c.notices))?;
+    let members = with_number(alloc, members, "users", u64::from(c.users))?;
+    Ok(Value::Object(members))
 }
 
 /// The answer to GET /status.
@@ -55,7 +60,9 @@ fn body_value(alloc: Global, text: &[u8], rev: u32) -> Result<Value, AllocError>
     ensures { IfOk result (λ v. view v ≡ body_data text.now rev) }
 {
     let encoded = STANDARD.encode(alloc, text)?;
-    json!(in alloc; {"body": encoded, "rev": rev})
+    let members = with_value(alloc, Map::new(alloc), "body", Value::String(encoded))?;
+    let members = with_number(alloc, members, "rev", u64::from(rev))?;
+    Ok(Value::Object(members))
 }
 
 /// The answer to GET /body: a text and its rev.
@@ -66,56 +73,48 @@ pub fn body_json(alloc: Global, text: &[u8], rev: u32) -> Result<Text, NoMemory>
     text_of(alloc, body_value(alloc, text, rev)?)
 }
 
-fn number_value(alloc: Global, number: u32) -> Result<Value, AllocError>
-    ensures { IfOk result (λ v. view v ≡ number_data number) }
+/// A number alone.
+fn number_value(alloc: Global, key: &str, number: u32) -> Result<Value, AllocError>
+    ensures { IfOk result (λ v. view v ≡ object (member key.now (counted number) no_members)) }
 {
-    json!(in alloc; {"number": number})
+    let members = with_number(alloc, Map::new(alloc), key, u64::from(number))?;
+    Ok(Value::Object(members))
 }
 
 /// The answer to POST /act: the act's number.
 pub fn number_json(alloc: Global, number: u32) -> Result<Text, NoMemory>
     ensures { IfOk result (λ text. text ≡ compact_text (number_data number)) }
 {
-    text_of(alloc, number_value(alloc, number)?)
-}
-
-fn items_value(alloc: Global, items: u32) -> Result<Value, AllocError>
-    ensures { IfOk result (λ v. view v ≡ items_data items) }
-{
-    json!(in alloc; {"items": items})
+    text_of(alloc, number_value(alloc, "number", number)?)
 }
 
 /// The answer to POST /snapshot: how many items the snapshot holds.
 pub fn items_json(alloc: Global, items: u32) -> Result<Text, NoMemory>
     ensures { IfOk result (λ text. text ≡ compact_text (items_data items)) }
 {
-    text_of(alloc, items_value(alloc, items)?)
+    text_of(alloc, number_value(alloc, "items", items)?)
 }
 
-fn stopped_value(alloc: Global) -> Result<Value, AllocError>
-    ensures { IfOk result (λ v. view v ≡ stopped_data) }
+/// That something is true.
+fn true_value(alloc: Global, key: &str) -> Result<Value, AllocError>
+    ensures { IfOk result (λ v. view v ≡ object (member key.now (boolean true) no_members)) }
 {
-    json!(in alloc; {"stopped": true})
+    let members = with_value(alloc, Map::new(alloc), key, Value::Bool(true))?;
+    Ok(Value::Object(members))
 }
 
 /// The answer to POST /stop.
 pub fn stopped_json(alloc: Global) -> Result<Text, NoMemory>
     ensures { IfOk result (λ text. text ≡ compact_text stopped_data) }
 {
-    text_of(alloc, stopped_value(alloc)?)
-}
-
-fn upgraded_value(alloc: Global) -> Result<Value, AllocError>
-    ensures { IfOk result (λ v. view v ≡ upgraded_data) }
-{
-    json!(in alloc; {"upgraded": true})
+    text_of(alloc, true_value(alloc, "stopped")?)
 }
 
 /// The answer to POST /upgrade.
 pub fn upgraded_json(alloc: Global) -> Result<Text, NoMemory>
     ensures { IfOk result (λ text. text ≡ compact_text upgraded_data) }
 {
-    text_of(alloc, upgraded_value(alloc)?)
+    text_of(alloc, true_value(alloc, "upgraded")?)
 }
 
 fn word(error: ErrorWord) -> &'static str
@@ -134,8 +133,8 @@ fn word(error: ErrorWord) -> &'static str
 fn error_value(alloc: Global, error: ErrorWord) -> Result<Value, AllocError>
     ensures { IfOk result (λ v. view v ≡ error_data error) }
 {
-    let text = String::from_str(alloc, word(error))?;
-    json!(in alloc; {"error": text})
+    let members = with_text(alloc, Map::new(alloc), "error", word(error))?;
+    Ok(Value::Object(members))
 }
 
 /// The body of a refusal that has no number.
@@ -145,41 +144,32 @@ pub fn error_json(alloc: Global, error: ErrorWord) -> Result<Text, NoMemory>
     text_of(alloc, error_value(alloc, error)?)
 }
 
-fn point_value(alloc: Global, given: u32) -> Result<Value, AllocError>
-    ensures { IfOk result (λ v. view v ≡ point_data given) }
+/// A refusal and its number.
+fn refused_value(alloc: Global, word: &str, key: &str, number: u32) -> Result<Value, AllocError>
+    ensures { IfOk result (λ v. view v ≡ object (put key.now (counted number) (member (codes "error") (string word.now) no_members))) }
 {
-    json!(in alloc; {"error": "point", "given": given})
+    let members = with_text(alloc, Map::new(alloc), "error", word)?;
+    let members = with_number(alloc, members, key, u64::from(number))?;
+    Ok(Value::Object(members))
 }
 
 /// The body of a refusal of a cycle's point.
 pub fn point_json(alloc: Global, given: u32) -> Result<Text, NoMemory>
     ensures { IfOk result (λ text. text ≡ compact_text (point_data given)) }
 {
-    text_of(alloc, point_value(alloc, given)?)
-}
-
-fn uncycled_value(alloc: Global, given: u32) -> Result<Value, AllocError>
-    ensures { IfOk result (λ v. view v ≡ uncycled_data given) }
-{
-    json!(in alloc; {"error": "cycle", "given": given})
+    text_of(alloc, refused_value(alloc, "point", "given", given)?)
 }
 
 /// The body of a refusal of the cycle that is to be withdrawn.
 pub fn uncycled_json(alloc: Global, given: u32) -> Result<Text, NoMemory>
     ensures { IfOk result (λ text. text ≡ compact_text (uncycled_data given)) }
 {
-    text_of(alloc, uncycled_value(alloc, given)?)
-}
-
-fn numbers_value(alloc: Global, next: u32) -> Result<Value, AllocError>
-    ensures { IfOk result (λ v. view v ≡ numbers_data next) }
-{
-    json!(in alloc; {"error": "numbers", "next": next})
+    text_of(alloc, refused_value(alloc, "cycle", "given", given)?)
 }
 
 /// The body of a refusal for want of numbers.
 pub fn numbers_json(alloc: Global, next: u32) -> Result<Text, NoMemory>
     ensures { IfOk result (λ text. text ≡ compact_text (numbers_data next)) }
 {
-    text_of(alloc, numbers_value(alloc, next)?)
+    text_of(alloc, refused_value(alloc, "numbers", "next", next)?)
 }

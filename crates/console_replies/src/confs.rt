@@ -1,15 +1,16 @@
 //! Configurations.
 //!
 //! `/conf` puts each alias under its local part, in byte order.
-ghost use Rattle.std.specs.Prelude.{◌≡◌, IfOk, OnOk, codes, map, string_bytes};
-ghost use Rattle.serde_json.specs.Data.{member, object, string};
+ghost use Rattle.std.specs.Prelude.{◌≡◌, IfOk, OnOk, codes, map};
+ghost use Rattle.serde_json.specs.Data.{array, member, no_members, object, put, string};
 ghost use Rattle.serde_json.specs.View.{view, items_view, items_of, members_view};
 ghost use Rattle.serde_json.specs.Written.{compact_text};
 ghost use Rattle.console_replies.specs.Confs.{user_data, users_data, put_alias as with_alias, aliases_members, file_data, plain_data, worded_members, filter_data, conf_data};
 
+use crate::objects::{Members, with_list, with_text, with_value};
 use crate::text::{name_text, text_of};
 use crate::timeline::user_name;
-use serde_json::{Map, Value, json};
+use serde_json::{Map, Value, put as put_member};
 use std::alloc::{AllocError, Global};
 use undo_base::{Name, NoMemory, Text, User};
 use verb_core::{Alias, Conf, Filter, House, Scope};
@@ -17,8 +18,7 @@ use verb_core::{Alias, Conf, Filter, House, Scope};
 fn user_value(alloc: Global, house: &House, user: User) -> Result<Value, AllocError>
     ensures { IfOk result (λ v. view v ≡ user_data house.now user) }
 {
-    let name = user_name(alloc, house, user)?;
-    Ok(Value::String(name))
+    Value::try_from_str(alloc, user_name(house, user))
 }
 
 fn user_values(alloc: Global, house: &House, users: &[User]) -> Result<Vec<Value>, AllocError>
@@ -46,9 +46,7 @@ fn put_alias(
     ensures { OnOk result (members_view members.new.entries ≡ with_alias house.now (members_view members.old.entries) alias.now) }
 {
     let users = users_value(alloc, house, alias.users.as_slice())?;
-    let local = name_text(alloc, &alias.local)?;
-    members.insert(local, users)?;
-    Ok(())
+    put_member(members, alloc, name_text(&alias.local), users)
 }
 
 #[tactic(auto, using(crate::proofs::Members::aliases_more))]
@@ -71,46 +69,54 @@ fn file_value(alloc: Global, file: &Option<Name>) -> Result<Value, AllocError>
 {
     match file {
         None => Ok(Value::Null),
-        Some(name) => Ok(Value::String(name_text(alloc, name)?)),
+        Some(name) => Value::try_from_str(alloc, name_text(name)),
     }
 }
 
-/// A filter's file, its name and its needle.
-fn filter_parts(alloc: Global, filter: &Filter) -> Result<(Value, String, String), AllocError>
-    ensures { IfOk result (λ p. (view p.0 ≡ file_data filter.now.file) × (string_bytes p.1 ≡ filter.now.id) × (string_bytes p.2 ≡ filter.now.needle)) }
+fn with_file(alloc: Global, members: Members, file: &Option<Name>) -> Result<Members, AllocError>
+    ensures { IfOk result (λ m. members_view m.entries ≡ put (codes "file") (file_data file.now) (members_view members.entries)) }
 {
-    let file = file_value(alloc, &filter.file)?;
-    let name = name_text(alloc, &filter.id)?;
-    let needle = name_text(alloc, &filter.needle)?;
-    Ok((file, name, needle))
+    let value = file_value(alloc, file)?;
+    with_value(alloc, members, "file", value)
+}
+
+/// A filter's file, its name and its needle.
+fn filter_members(alloc: Global, filter: &Filter) -> Result<Members, AllocError>
+    ensures { IfOk result (λ m. members_view m.entries ≡ member (codes "file") (file_data filter.now.file) (member (codes "name") (string filter.now.id) (member (codes "needle") (string filter.now.needle) no_members))) }
+{
+    let members = with_file(alloc, Map::new(alloc), &filter.file)?;
+    let members = with_text(alloc, members, "name", name_text(&filter.id))?;
+    with_text(alloc, members, "needle", name_text(&filter.needle))
 }
 
 /// A filter that looks in the body.
 fn plain_value(alloc: Global, filter: &Filter) -> Result<Value, AllocError>
     ensures { IfOk result (λ v. view v ≡ plain_data filter.now) }
 {
-    let (file, name, needle) = filter_parts(alloc, filter)?;
-    json!(in alloc; {"file": file, "name": name, "needle": needle})
+    Ok(Value::Object(filter_members(alloc, filter)?))
 }
 
 /// A filter that looks where a word says.
+fn worded(alloc: Global, filter: &Filter, word: &str) -> Result<Members, AllocError>
+    ensures { IfOk result (λ m. members_view m.entries ≡ worded_members filter.now word.now) }
+{
+    let members = filter_members(alloc, filter)?;
+    with_text(alloc, members, "scope", word)
+}
+
 fn worded_value(alloc: Global, filter: &Filter, word: &str) -> Result<Value, AllocError>
     ensures { IfOk result (λ v. view v ≡ object (worded_members filter.now word.now)) }
 {
-    let (file, name, needle) = filter_parts(alloc, filter)?;
-    let scope = String::from_str(alloc, word)?;
-    json!(in alloc; {"file": file, "name": name, "needle": needle, "scope": scope})
+    Ok(Value::Object(worded(alloc, filter, word)?))
 }
 
 /// A filter that looks at a header field.
 fn field_value(alloc: Global, filter: &Filter, field: &Name) -> Result<Value, AllocError>
     ensures { IfOk result (λ v. view v ≡ object (member (codes "field") (string field.now) (worded_members filter.now (codes "header")))) }
 {
-    let field = name_text(alloc, field)?;
-    let (file, name, needle) = filter_parts(alloc, filter)?;
-    json!(in alloc; {
-        "field": field, "file": file, "name": name, "needle": needle, "scope": "header"
-    })
+    let members = worded(alloc, filter, "header")?;
+    let members = with_text(alloc, members, "field", name_text(field))?;
+    Ok(Value::Object(members))
 }
 
 fn filter_value(alloc: Global, filter: &Filter) -> Result<Value, AllocError>
@@ -134,12 +140,20 @@ fn filter_values(alloc: Global, filters: &[Filter]) -> Result<Vec<Value>, AllocE
     Ok(values)
 }
 
+fn with_filters(alloc: Global, members: Members, filters: &[Filter]) -> Result<Members, AllocError>
+    ensures { IfOk result (λ m. members_view m.entries ≡ put (codes "filters") (array (items_of (map filter_data filters.now))) (members_view members.entries)) }
+{
+    let values = filter_values(alloc, filters)?;
+    with_list(alloc, members, "filters", values)
+}
+
 fn conf_value(alloc: Global, house: &House, conf: &Conf) -> Result<Value, AllocError>
     ensures { IfOk result (λ v. view v ≡ conf_data house.now conf.now) }
 {
     let aliases = alias_values(alloc, house, conf.aliases.as_slice())?;
-    let filters = filter_values(alloc, conf.filters.as_slice())?;
-    json!(in alloc; {"aliases": aliases, "filters": filters})
+    let members = with_value(alloc, Map::new(alloc), "aliases", Value::Object(aliases))?;
+    let members = with_filters(alloc, members, conf.filters.as_slice())?;
+    Ok(Value::Object(members))
 }
 
 /// The answer to GET /conf.

@@ -1,13 +1,14 @@
 //! The operator's console: what it answers.
 //!
 //! `reply` has a whole answer with its head (RFC 9112). `bodies` has the short bodies, `timeline`, `mailboxes` and `confs` those
-//! that tell of the store, and `reports` those of cycles; `text` what they are made of. What carries the crate: each call's bytes
+//! that tell of the store, and `reports` those of cycles; `objects` and `text` what they are made of. What carries the crate: each call's bytes
 //! are those of a definition over JSON data (RFC 8259), compact and with members in byte order.
 #![tactic(auto)]
 
 mod bodies;
 mod confs;
 mod mailboxes;
+mod objects;
 mod reply;
 mod reports;
 mod text;

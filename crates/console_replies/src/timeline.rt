@@ -2,55 +2,58 @@
 //!
 //! A row shows the mailbox that its deed names first: the source of COPY and RENAME, and that of the acts REMOVE and GIVE. Of
 //! DELIVER, LIST, NOTICE and the acts on aliases and filters it is `""`. A user who is not known has the name `""`.
-ghost use Rattle.std.specs.Prelude.{◌≡◌, IfOk, map, string_bytes, option_map, unwrap_or, []};
+ghost use Rattle.std.specs.Prelude.{◌≡◌, IfOk, map, option_map, unwrap_or, []};
 ghost use Rattle.serde_json.specs.View.{view, items_view, items_of};
 ghost use Rattle.serde_json.specs.Written.{compact_text};
 ghost use Rattle.paradox.specs.Letters.{user_name as name_of_user};
 ghost use Rattle.console_replies.specs.Timeline.{actor_name as name_of_actor, item_data, timeline_data};
 
+use crate::objects::{with_list, with_number, with_text};
 use crate::text::{name_text, text_of};
-use serde_json::{Value, json};
+use serde_json::{Map, Value};
 use std::alloc::{AllocError, Global};
 use stored_items::StoredItem;
 use undo_base::{Name, NoMemory, Text, User};
 use verb_core::{House, Item};
 
 /// A name, or no bytes.
-fn name_or_none(alloc: Global, name: Option<&Name>) -> Result<String, AllocError>
-    ensures { IfOk result (λ text. string_bytes text ≡ unwrap_or (option_map (λ n. n.now) name.entry) []) }
+fn name_or_none(name: Option<&Name>) -> &str
+    ensures { result.now ≡ unwrap_or (option_map (λ n. n.now) name.entry) [] }
 {
     match name {
-        None => Ok(String::new(alloc)),
-        Some(name) => name_text(alloc, name),
+        None => "",
+        Some(name) => name_text(name),
     }
 }
 
 /// The user's name, or no bytes.
-pub fn user_name(alloc: Global, house: &House, user: User) -> Result<String, AllocError>
-    ensures { IfOk result (λ text. string_bytes text ≡ name_of_user house.now user) }
+pub fn user_name(house: &House, user: User) -> &str
+    ensures { result.now ≡ name_of_user house.now user }
 {
     match house.accounts.get(user.0 as usize) {
-        None => Ok(String::new(alloc)),
-        Some(account) => name_text(alloc, &account.name),
+        None => "",
+        Some(account) => name_text(&account.name),
     }
 }
 
-fn actor_name(alloc: Global, house: &House, by: Option<User>) -> Result<String, AllocError>
-    ensures { IfOk result (λ text. string_bytes text ≡ name_of_actor house.now by) }
+fn actor_name(house: &House, by: Option<User>) -> &str
+    ensures { result.now ≡ name_of_actor house.now by }
 {
     match by {
-        None => Ok(String::new(alloc)),
-        Some(user) => user_name(alloc, house, user),
+        None => "",
+        Some(user) => user_name(house, user),
     }
 }
 
 fn item_value(alloc: Global, house: &House, item: &Item) -> Result<Value, AllocError>
     ensures { IfOk result (λ v. view v ≡ item_data house.now item.now) }
 {
-    let mailbox = name_or_none(alloc, item.deed.mailbox())?;
-    let by = actor_name(alloc, house, item.by)?;
-    let verb = String::from_str(alloc, item.deed.word())?;
-    json!(in alloc; {"at": item.at, "box": mailbox, "by": by, "number": item.number, "verb": verb})
+    let members = with_number(alloc, Map::new(alloc), "at", item.at)?;
+    let members = with_text(alloc, members, "box", name_or_none(item.deed.mailbox()))?;
+    let members = with_text(alloc, members, "by", actor_name(house, item.by))?;
+    let members = with_number(alloc, members, "number", u64::from(item.number))?;
+    let members = with_text(alloc, members, "verb", item.deed.word())?;
+    Ok(Value::Object(members))
 }
 
 /// An item whose text is not in memory: none of it is told.
@@ -74,7 +77,8 @@ fn timeline_value(alloc: Global, house: &House, items: &[StoredItem]) -> Result<
     ensures { IfOk result (λ v. view v ≡ timeline_data house.now items.now) }
 {
     let values = item_values(alloc, house, items)?;
-    json!(in alloc; {"items": values})
+    let members = with_list(alloc, Map::new(alloc), "items", values)?;
+    Ok(Value::Object(members))
 }
 
 /// The answer to GET /timeline: items in order, of which the desk tells at most 1,000.
