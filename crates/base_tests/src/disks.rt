@@ -23,11 +23,17 @@ fn written(alloc: Global) -> Result<MemDisk, Fail> {
 }
 
 fn has_image(alloc: Global, disk: &MemDisk, count: usize, bytes: &[u8]) -> Result<bool, Fail> {
-    Ok(disk.image_after(alloc, count)?.bytes() == bytes)
+    let image = disk.image_after(alloc, count)?;
+    let same = image.bytes() == bytes;
+    drop(image);
+    Ok(same)
 }
 
 fn has_torn(alloc: Global, disk: &MemDisk, at: (usize, usize), bytes: &[u8]) -> Result<bool, Fail> {
-    Ok(disk.image_torn(alloc, at.0, at.1)?.bytes() == bytes)
+    let image = disk.image_torn(alloc, at.0, at.1)?;
+    let same = image.bytes() == bytes;
+    drop(image);
+    Ok(same)
 }
 
 /// So many writes, so many bytes of the next, and what a crash leaves there.
@@ -38,23 +44,34 @@ const LEFT: [((usize, usize), &[u8]); 4] = [
     ((1, 0), b"mailroom!"),
 ];
 
-fn leaves_fronts(alloc: Global, disk: &MemDisk) -> Result<bool, Fail> {
-    for (at, bytes) in LEFT {
-        if !has_torn(alloc, disk, at, bytes)? {
-            return Ok(false);
+/// The place of the first of these that a crash does not leave.
+fn first_not_left(
+    alloc: Global,
+    disk: &MemDisk,
+    left: &[((usize, usize), &[u8])],
+) -> Result<Option<usize>, Fail> {
+    for (row, (at, bytes)) in left.iter().enumerate() {
+        if !has_torn(alloc, disk, *at, bytes)? {
+            return Ok(Some(row));
         }
     }
-    Ok(disk.writes() == 1)
+    Ok(None)
 }
 
-fn written_leaves_fronts(alloc: Global) -> Result<bool, Fail> {
+/// How many writes there were, and the first that a crash does not leave.
+fn crashed(alloc: Global) -> Result<(usize, Option<usize>), Fail> {
     let disk = written(alloc)?;
-    leaves_fronts(alloc, &disk)
+    let writes = disk.writes();
+    let wrong = first_not_left(alloc, &disk, &LEFT);
+    drop(disk);
+    Ok((writes, wrong?))
 }
 
 #[test]
 fn a_crash_leaves_a_front_of_the_write(rt: HostRuntime) -> Result<(), Fail> {
-    assert!(rt; written_leaves_fronts(rt.alloc())?);
+    let (writes, wrong) = crashed(rt.alloc())?;
+    assert_eq!(rt; writes, 1);
+    assert_eq!(rt; wrong, None);
     Ok(())
 }
 
@@ -74,54 +91,77 @@ fn last_byte(disk: &mut MemDisk) -> Result<u8, Failed> {
     Ok(byte[0])
 }
 
-/// The answers of a disk's calls in turn, a bit for each that fails; its length is told before each read.
-fn reads_fail(disk: &mut MemDisk) -> (bool, bool, bool) {
-    (
+/// How many of these are true, up to the first that isn't.
+pub(crate) fn held(all: &[bool]) -> usize {
+    for (row, one) in all.iter().enumerate() {
+        if !*one {
+            return row;
+        }
+    }
+    all.len()
+}
+
+/// Whether a disk's calls answer as listed, in turn; its length is told before each read.
+fn reads_fail(disk: &mut MemDisk) -> [bool; 3] {
+    [
         length_of(disk) == Err(Failed),
         last_byte(disk) == Err(Failed),
         last_byte(disk) == Ok(b'l'),
-    )
+    ]
 }
 
-fn writes_fail(disk: &mut MemDisk) -> (bool, bool, bool, bool) {
-    (
+fn writes_fail(disk: &mut MemDisk) -> [bool; 4] {
+    [
         disk.write_at(0, b"n") == Err(DiskFault::Failed),
         disk.write_at(0, b"n") == Ok(()),
         disk.sync() == Err(Failed),
         disk.sync() == Ok(()),
-    )
+    ]
 }
 
 #[test]
 fn the_listed_reads_fail(rt: HostRuntime) -> Result<(), Fail> {
     let mut disk = disk_of(rt.alloc(), b"mail", &[1, 3])?;
-    assert_eq!(rt; reads_fail(&mut disk), (true, true, true));
+    let failed = reads_fail(&mut disk);
+    drop(disk);
+    assert_eq!(rt; held(&failed), 3);
     Ok(())
 }
 
 /// Whether the first write left nothing, and the second its byte.
-fn has_images(alloc: Global, disk: &MemDisk) -> Result<bool, Fail> {
-    Ok(has_image(alloc, disk, 1, b"mail")? && has_image(alloc, disk, 2, b"nail")?)
+fn has_images(alloc: Global, disk: &MemDisk) -> Result<[bool; 2], Fail> {
+    let first = has_image(alloc, disk, 1, b"mail")?;
+    Ok([first, has_image(alloc, disk, 2, b"nail")?])
 }
 
-fn writes_and_images(alloc: Global) -> Result<((bool, bool, bool, bool), bool), Fail> {
+fn writes_and_images(alloc: Global) -> Result<([bool; 4], [bool; 2]), Fail> {
     let mut disk = disk_of(alloc, b"mail", &[1, 3])?;
     let failed = writes_fail(&mut disk);
-    Ok((failed, has_images(alloc, &disk)?))
+    let images = has_images(alloc, &disk);
+    drop(disk);
+    Ok((failed, images?))
 }
 
 #[test]
 fn the_listed_writes_and_syncs_fail(rt: HostRuntime) -> Result<(), Fail> {
-    let (failed, is_left) = writes_and_images(rt.alloc())?;
-    assert!(rt; is_left);
-    assert_eq!(rt; failed, (true, true, true, true));
+    let (failed, left) = writes_and_images(rt.alloc())?;
+    assert_eq!(rt; held(&failed), 4);
+    assert_eq!(rt; held(&left), 2);
     Ok(())
+}
+
+/// Whether each call fails.
+fn all_fail(disk: &mut AbsentDisk) -> [bool; 3] {
+    [
+        length_of(disk) == Err(Failed),
+        disk.write_at(0, b"") == Err(DiskFault::Failed),
+        disk.sync() == Err(Failed),
+    ]
 }
 
 #[test]
 fn no_call_of_the_absent_disk_succeeds(rt: HostRuntime) {
     let mut none = AbsentDisk::new();
-    assert_eq!(rt; length_of(&mut none), Err(Failed));
-    assert_eq!(rt; none.write_at(0, b""), Err(DiskFault::Failed));
-    assert_eq!(rt; none.sync(), Err(Failed));
+    let failed = all_fail(&mut none);
+    assert_eq!(rt; held(&failed), 3);
 }

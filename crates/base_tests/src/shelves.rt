@@ -40,12 +40,22 @@ fn noted(alloc: Global) -> Result<Shelf, NoMemory> {
     Ok(shelf)
 }
 
+/// The first of these bodies of which another size is told.
+fn missized(shelf: &Shelf, sizes: &[(u32, u32, Option<u32>)]) -> Option<(u32, u32)> {
+    for (origin, rev, want) in sizes {
+        if shelf.size(body(*origin, *rev)) != *want {
+            return Some((*origin, *rev));
+        }
+    }
+    None
+}
+
 #[test]
 fn the_last_note_of_each_body_is_told(rt: HostRuntime) -> Result<(), Fail> {
     let shelf = noted(rt.alloc())?;
-    for (origin, rev, want) in SIZES {
-        assert_eq!(rt; shelf.size(body(origin, rev)), want);
-    }
+    let missized = missized(&shelf, &SIZES);
+    drop(shelf);
+    assert_eq!(rt; missized, None);
     Ok(())
 }
 
@@ -64,7 +74,9 @@ fn read_noted<D: Disk>(
     let mut shelf = Shelf::new(alloc);
     shelf.note_room(1)?;
     shelf.note(body, place, 2, 4);
-    Ok(shelf.text(alloc, log, disk, body))
+    let found = shelf.text(alloc, log, disk, body);
+    drop(shelf);
+    Ok(found)
 }
 
 /// Reads a part of the second payload of a journal by its note.
@@ -77,7 +89,8 @@ fn reads_where_it_is_noted(alloc: Global) -> Result<bool, Fail> {
 
 #[test]
 fn a_text_is_read_where_it_is_noted(rt: HostRuntime) -> Result<(), Fail> {
-    assert!(rt; reads_where_it_is_noted(rt.alloc())?);
+    let read = reads_where_it_is_noted(rt.alloc())?;
+    assert!(rt; read);
     Ok(())
 }
 
@@ -113,14 +126,30 @@ const NEWEST: [(u32, Option<(u32, u64)>); 5] = [
     (99, Some((30, 300))),
 ];
 
+/// The first of these positions for which another snapshot is told.
+fn misplaced(shelf: &Shelf, table: &[(u32, Option<(u32, u64)>)]) -> Option<u32> {
+    for (position, want) in table {
+        if newest(shelf, *position) != *want {
+            return Some(*position);
+        }
+    }
+    None
+}
+
+/// What is kept last, and how many marks there are, where those after 20 are forgotten.
+fn left_behind(shelf: &mut Shelf) -> (Option<(u32, u64)>, usize) {
+    shelf.forget_after(20);
+    (newest(shelf, 99), shelf.marks_at_or_before(99).len())
+}
+
 #[test]
 fn the_newest_snapshot_is_told_and_later_ones_are_forgotten(rt: HostRuntime) -> Result<(), Fail> {
     let mut shelf = kept(rt.alloc())?;
-    for (position, want) in NEWEST {
-        assert_eq!(rt; newest(&shelf, position), want);
-    }
-    shelf.forget_after(20);
-    assert_eq!(rt; newest(&shelf, 99), Some((20, 250)));
-    assert_eq!(rt; shelf.marks_at_or_before(99).len(), 2);
+    let misplaced = misplaced(&shelf, &NEWEST);
+    let (newest, marks) = left_behind(&mut shelf);
+    drop(shelf);
+    assert_eq!(rt; misplaced, None);
+    assert_eq!(rt; newest, Some((20, 250)));
+    assert_eq!(rt; marks, 2);
     Ok(())
 }

@@ -6,8 +6,8 @@ use Rattle.shelf.proofs.OrderLemmas.{tested_itself}
 use Rattle.base_tests.proofs.shelves.read_noted.Goals as goal
 
 -- the note is that of the body
-pub text-requires-clause-noted : goal.text-requires-clause-noted
-text-requires-clause-noted g c =
+pub text-found-requires-clause-noted : goal.text-found-requires-clause-noted
+text-found-requires-clause-noted g c =
     let note : Note = record { place = c.args.place; from = 2; length = 4 } in
     let is : note_of c.note.new.self.notes c.body-body.result ≡ Some note =
     c.note.ensures.notes c.body-body.result ∙ ap (λ b. cond b (Some note) (note_of c.note_room.new.self.notes c.body-body.result)) (tested_itself c.body-body.result) in
