@@ -345,12 +345,16 @@ noted_for gate next before after at (Withdrawal key of) told made bytes next_is 
     withdrawal_notes gate next before after at of told made (record { gate = gate; length = length bytes }) (omega (arith, next_is)) is fit base key.now put notes sizes' noted
 
 -- where its record brings texts, or none
+pub notes_of : (old : Held) (at : ℕ) (asked : Request) (place : Place) (made : Rewound) (fresh : Fresh) (undoes : Bool) (notes : List (Body × Note)) → undoes ≡ undoes_of asked → IsFreshOf old.kept.next at asked place fresh
+    → Renotes old.notes fresh old.kept.texts (asked_then old.kept undoes made) notes → NotesFor old at asked place made notes
+notes_of old at (Cycle ask) place made fresh undoes notes same is renotes =
+    record { fresh = fresh; is_fresh = is; renotes = subst (λ (b : Bool). Renotes old.notes fresh old.kept.texts (asked_then old.kept b made) notes) same renotes }
+notes_of old at (Withdrawal key of) place made fresh undoes notes same is renotes =
+    (fresh, is.0, is.1, subst (λ (b : Bool). Renotes old.notes fresh old.kept.texts (asked_then old.kept b made) notes) same renotes)
+
 pub notes_for : {T : Type 0} (old : Held) (at : ℕ) (asked : Request) (place : Place) (made : Rewound) (fresh : Fresh) (undoes : Bool) (result : Result T NoMemory) (notes_in : T → List (Body × Note)) → undoes ≡ undoes_of asked → IsFreshOf old.kept.next at asked place fresh
     → IfOk result (λ found. Renotes old.notes fresh old.kept.texts (asked_then old.kept undoes made) (notes_in found)) → IfOk result (λ found. NotesFor old at asked place made (notes_in found))
-notes_for old at (Cycle ask) place made fresh undoes (Ok found) notes_in same is renotes =
-    record { fresh = fresh; is_fresh = is; renotes = subst (λ (b : Bool). Renotes old.notes fresh old.kept.texts (asked_then old.kept b made) (notes_in found)) same renotes }
-notes_for old at (Withdrawal key of) place made fresh undoes (Ok found) notes_in same is renotes =
-    (fresh, is.0, is.1, subst (λ (b : Bool). Renotes old.notes fresh old.kept.texts (asked_then old.kept b made) (notes_in found)) same renotes)
+notes_for old at asked place made fresh undoes (Ok found) notes_in same is renotes = notes_of old at asked place made fresh undoes (notes_in found) same is renotes
 notes_for old at asked place made fresh undoes (Err why) notes_in same is renotes = tt
 
 module _ {D : Type 0} (told : D → DiskTold) (disk : D) (before after : Held) (old new : JournalTold D) (at : ℕ) (asked : Request) (made : Rewound) (bytes : List ℕ) (reads : ReadsAlone (told disk) (told old.disk)) (open_ : old.closed ≡ false) where

@@ -31,7 +31,9 @@ pub mod Settled
 pub mod CutBodies
 pub mod CutStores
 pub mod CutParts
+pub mod Others
 pub mod Judging
+pub mod Redoing
 pub mod Places
 pub mod Unread
 pub mod Headed

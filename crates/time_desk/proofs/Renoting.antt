@@ -773,9 +773,3 @@ cycle_follows kept number at ask spelled can new =
     none_is : {A : Type 0} (o : Option A) → is_none o ≡ true → o ≡ None
     none_is None e = refl
     none_is (Some x) e = absurd (let wrong : ◌≡◌ {A = Bool} false true = e in cc)
-
--- and its number is the next one
-pub cycle_number : (kept : Kept) (number : ℕ) (ask : CycleAsk) → can_rewind kept number ask ≡ true → number ≡ kept.next
-cycle_number kept number ask can =
-    let same : (number == kept.next) ≡ true = first_so (number == kept.next) (are_known kept.house ask.inserts) can in
-    grind (arith, nat_tests)

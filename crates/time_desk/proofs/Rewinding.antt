@@ -514,13 +514,6 @@ due_new kept at ask new = ap (λ (r : Option Report). due_by r (due_anew kept at
 pub due_again : (kept : Kept) (at : ℕ) (ask : CycleAsk) (report : Report) → report_of kept.reports ask.key ≡ Some report → cycle_due kept at ask ≡ Repeats report
 due_again kept at ask report had = ap (λ (r : Option Report). due_by r (due_anew kept at ask)) had
 
--- a cycle that is refused for more than a read that failed, and want of memory, is not due
-pub none_after : (kept : Kept) (ask : CycleAsk) (due : Due) (refused : CycleRefused) → IsRefusalOf kept ask due refused → (refused ≡ refusals.NoMemory → ⊥) → (refused ≡ refusals.Disk → ⊥) → after_due (after_cycle kept ask) due ≡ None
-none_after kept ask due (refusals.Point given) refusal more disk = ap (after_due (after_cycle kept ask)) refusal.0
-none_after kept ask due (refusals.Numbers next) refusal more disk = ap (after_due (after_cycle kept ask)) refusal.0
-none_after kept ask due refusals.Disk refusal more disk = absurd (disk refl)
-none_after kept ask due refusals.NoMemory refusal more disk = absurd (more refl)
-
 -- ---- the record of a cycle
 
 -- what the record comes to, where it has a spelling and the next number, and its users are known
@@ -627,34 +620,3 @@ module _ {D : Type 0} (told : D → DiskTold) where
       let some = cycle_reads held.kept at ask in
       let redone = cycled_redoes held.kept at ask (ToldOr (HoldsHeld (told journal.disk) held) some) made is in
       (redone.0, redone.1, λ h. report_is ∙ (redone.2 (held_or told held journal (some ≡ false) h)).report)
-
--- ---- a record of a cycle that is read
-
--- where it can't follow, or a cycle had its key, it can't stand
-pub unfit_after : (kept : Kept) (number at : ℕ) (ask : CycleAsk) → can_rewind kept number ask ≡ false → after_cycle_record kept number at ask ≡ None
-unfit_after kept number at ask unfit = by_cases (is_spelled (Cycle number at ask)) (can_rewind kept number ask) unfit
-  where
-    by_cases : (spelled fit : Bool) → fit ≡ false → (if spelled && fit then after_due (after_cycle kept ask) (cycle_due kept at ask) else None) ≡ None
-    by_cases true true e = absurd (cc e)
-    by_cases true false e = refl
-    by_cases false fit e = refl
-
-pub had_after : (kept : Kept) (number at : ℕ) (ask : CycleAsk) → is_none (report_of kept.reports ask.key) ≡ false → after_cycle_record kept number at ask ≡ None
-had_after kept number at ask had = by_report (report_of kept.reports ask.key) (is_spelled (Cycle number at ask) && can_rewind kept number ask) had
-  where
-    by_report : (found : Option Report) (can : Bool) → is_none found ≡ false → (if can then after_due (after_cycle kept ask) (due_by found (due_anew kept at ask)) else None) ≡ None
-    by_report None can e = absurd (cc e)
-    by_report (Some report) true e = refl
-    by_report (Some report) false e = refl
-
--- else it comes to what is due
-pub fit_after : (kept : Kept) (number at : ℕ) (ask : CycleAsk) → is_spelled (Cycle number at ask) ≡ true → can_rewind kept number ask ≡ true → is_none (report_of kept.reports ask.key) ≡ true
-    → after_cycle_record kept number at ask ≡ after_due (after_cycle kept ask) (due_anew kept at ask)
-fit_after kept number at ask spelled fit anew =
-    ap (λ (b : Bool). if b && can_rewind kept number ask then after_due (after_cycle kept ask) (cycle_due kept at ask) else None) spelled
-    ∙ ap (λ (b : Bool). if b then after_due (after_cycle kept ask) (cycle_due kept at ask) else None) fit
-    ∙ ap (after_due (after_cycle kept ask)) (due_new kept at ask (none_is (report_of kept.reports ask.key) anew))
-  where
-    none_is : (found : Option Report) → is_none found ≡ true → found ≡ None
-    none_is None e = refl
-    none_is (Some report) e = absurd (cc e)

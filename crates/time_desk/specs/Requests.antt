@@ -1,6 +1,7 @@
 -- What is asked of the past: a cycle, or to take the last one back.
-use Rattle.std.specs.Prelude.{◌≡◌, ◌+◌, ◌≤◌, ℕ, Bool, true, false, [], List, length, Some, Result, IsTrue, IfErr, OnErr, OnOk, IfOk}
+use Rattle.std.specs.Prelude.{◌≡◌, ◌==◌, ◌&&◌, ◌+◌, ◌≤◌, ℕ, Bool, true, false, [], List, length, Some, Result, IsTrue, IfErr, OnErr, OnOk, IfOk}
 use Rattle.undo_outside.specs.Disk.{DiskTold}
+use Rattle.verb_core.specs.declared.conf.House.{House}
 use Rattle.verb_core.specs.declared.mailbox.Body.{Body}
 use Rattle.paradox.specs.declared.reports.Report.{Report}
 use Rattle.verb_bytes.specs.declared.journal.JournalRecord.{JournalRecord}
@@ -57,7 +58,22 @@ abbrev pub IsFreshOf : ℕ → ℕ → Request → Place → Fresh → Type 0
 IsFreshOf number at (Cycle ask) place fresh = IsFresh number at ask.now place (record_bytes (records.Cycle number at ask.now)) fresh
 IsFreshOf number at (Withdrawal key of) place fresh = (fresh.place ≡ place) × (fresh.shelf.notes ≡ [])
 
--- the users of the acts that it brings are known
+-- whether the users of the acts that it brings are known
+abbrev pub knows_acts : House → Request → Bool
+knows_acts house (Cycle ask) = are_known house ask.now.inserts
+knows_acts house (Withdrawal key of) = true
+
+-- whether it can follow under a number: that is the next one, and those users are known
+abbrev pub redoes : Kept → ℕ → Request → Bool
+redoes kept number asked = (number == kept.next) && knows_acts kept.house asked
+
+-- whether a record is one of a request
+abbrev pub asks : JournalRecord → Bool
+asks (records.Cycle number at ask) = true
+asks (records.Withdraw number at key of) = true
+asks _ = false
+
+-- those users are known
 abbrev pub IsKnown : Kept → Request → Type 0
 IsKnown kept (Cycle ask) = IsTrue (are_known kept.house ask.now.inserts)
 IsKnown kept (Withdrawal key of) = Unit {0}

@@ -41,7 +41,6 @@ use std::sync::ledger::{Blank, Ledger};
 use std::thread::Threads;
 use undo_base::{LAST_MOMENT, Name, NoMemory, Text};
 use undo_outside::{Disk, Gate};
-use verb_bytes::CycleAsk;
 use verb_core::BodiesFault;
 
 /// What a repair begins with.
@@ -296,21 +295,4 @@ pub(crate) fn remade(
         undoes,
     };
     desk.remake(alloc, key, left, fresh)
-}
-
-/// The key of a request.
-pub(crate) fn key_in(ask: CycleAsk) -> Name
-    ensures { result ≡ ask.key }
-{
-    let CycleAsk {
-        key,
-        drops,
-        replaces,
-        inserts,
-        ..
-    } = ask;
-    drop(drops);
-    drop(replaces);
-    drop(inserts);
-    key
 }

@@ -60,6 +60,28 @@ impl<'a> Request<'a> {
             Request::Withdrawal(_, _) => Ok(no_fresh(alloc, place)),
         }
     }
+
+    /// The same with a copy of its key.
+    pub(crate) fn placed(
+        &self,
+        alloc: Global,
+        number: u32,
+        place: Place,
+    ) -> Result<(Name, Fresh), NoMemory>
+        ensures key { IfOk result (λ parts. parts.0 ≡ key_of self.now) }
+        ensures fresh { (at : ℕ) → IfOk result (λ parts. IsFreshOf number at self.now place parts.1) }
+    {
+        match self.fresh(alloc, number, place) {
+            Ok(fresh) => match self.key().copy(alloc) {
+                Ok(key) => Ok((key, fresh)),
+                Err(NoMemory) => {
+                    drop(fresh);
+                    Err(NoMemory)
+                }
+            },
+            Err(NoMemory) => Err(NoMemory),
+        }
+    }
 }
 
 /// A record that is to be sealed: the key of its request, its bytes, and where the texts lie that it brings.
@@ -85,7 +107,11 @@ pub(crate) fn spelled<D: Disk>(
 {
     let number = desk.next();
     let bytes = asked.bytes(alloc, number, at)?;
-    let fresh = asked.fresh(alloc, number, journal.next_place(&bytes))?;
-    let key = asked.key().copy(alloc)?;
-    Ok(NewRecord { key, bytes, fresh })
+    match asked.placed(alloc, number, journal.next_place(&bytes)) {
+        Ok((key, fresh)) => Ok(NewRecord { key, bytes, fresh }),
+        Err(NoMemory) => {
+            drop(bytes);
+            Err(NoMemory)
+        }
+    }
 }

@@ -4,11 +4,11 @@
 //! where it decodes, that count is the timeline's length and its mailboxes make a store. Whether it holds the store of the state
 //! before it is compared when it is read: a true one is marked, and a cycle can begin with it. Another stands, sets the count of
 //! items back as every snapshot does, and is passed over. So no claim needs the premise that the records of a journal are true.
-ghost use Rattle.std.specs.Prelude.{◌≡◌, ◌==◌, ◌≤◌, ◌<◌, ◌+◌, List, ℕ, true, false, bytes_eq, is_none, length, IsTrue, IfOk, OnOk, IsErrOf};
+ghost use Rattle.std.specs.Prelude.{◌≡◌, ◌==◌, ◌≤◌, ◌<◌, ◌+◌, List, ℕ, true, false, bytes_eq, is_none, length, IsTrue, IfOk, IfSome, OnOk, IsErrOf};
 ghost use Rattle.std.specs.List.{list_all};
 ghost use Rattle.verb_core.specs.Items.{text_in, users_in};
 ghost use Rattle.verb_core.specs.Store.{is_known as knows};
-ghost use Rattle.verb_bytes.specs.declared.journal.JournalRecord.TheVariants.{Cycle, Operator, Snapshot, Upgrade, Verb, Withdraw};
+ghost use Rattle.verb_bytes.specs.declared.journal.JournalRecord.TheVariants.{Operator, Snapshot, Upgrade, Verb};
 ghost use Rattle.verb_bytes.specs.Spelling.{HasSpelling, record_bytes};
 ghost use Rattle.seal_log.specs.Causes.{ReadAtCause};
 ghost use Rattle.seal_log.specs.Journal.{LiesAt};
@@ -16,32 +16,31 @@ ghost use Rattle.store_kept.specs.Kept.{report_of};
 ghost use Rattle.store_kept.specs.Texts.{items_asked};
 ghost use Rattle.shelf.specs.Marks.{marks_at_or_before};
 ghost use Rattle.repair_desk.specs.Repairs.{are_known as acts_name_known};
-ghost use Rattle.cycle_rules.specs.Asking.{after_cycle, due_anew};
-ghost use Rattle.cycle_rules.specs.Withdrawals.{after_withdrawal, withdraw_due_anew};
 ghost use Rattle.mail_desk.specs.Timeline.{NotesText, SizesOf, body_of};
 ghost use Rattle.time_desk.specs.Cycling.{CanBeUndone, IsFit, after_rewound, asked_then};
-ghost use Rattle.desk_journal.specs.Records.{after_cycle_record, after_due, after_record, after_withdraw_record, can_follow as follows, can_keep as keeps, can_rewind as rewinds, is_formed as formed, is_true as tells_all, snapshot_record};
+ghost use Rattle.time_desk.specs.Requests.{NotesFor, asks, key_of, knows_acts, record_of, redoes, undoes_of};
+ghost use Rattle.desk_journal.specs.Records.{after_record, can_follow as follows, can_keep as keeps, is_formed as formed, is_true as tells_all, snapshot_record};
 ghost use Rattle.time_desk.specs.Auditing.{Judges};
 ghost use Rattle.time_desk.specs.Standing.{AsksAlike, Enters, IsFormed, Performs, has_users as uses, is_actor, kept_as, marked_as};
-ghost use Rattle.desk_journal.specs.Stored.{AreNoted, KeepsMarks, MarksLie, NotesCycle, NotesNone, NotesTexts, Renotes, TextsHeld, TextsStored};
+ghost use Rattle.desk_journal.specs.Stored.{AreNoted, KeepsMarks, MarksLie, NotesTexts, Renotes, TextsHeld, TextsStored};
 ghost use Rattle.desk_journal.specs.Telling.{IsPastRead};
 
-use crate::redo::{key_in, remade, rework_again};
+use crate::redo::{remade, rework_again};
 use crate::request::Request;
 use box_store::makes_store;
-use desk_journal::{Past, fresh_of, item_of, no_fresh};
+use desk_journal::{Past, item_of};
 use mail_cycle::{CycleRefused, Rewound};
 use mail_desk::{Desk, Fresh};
 use seal_log::{Place, ReadFault};
 use std::alloc::Global;
 use store_digest::snapshot_text;
-use undo_base::{LAST_MOMENT, LAST_NUMBER, Name, NoMemory, Text, User};
+use undo_base::{LAST_NUMBER, Name, NoMemory, Text, User};
 use undo_outside::Disk;
 use verb_bytes::laws::{
     one_spelling, spelled_cycles_have_moments, spelled_items_are_formed,
     spelled_withdrawals_have_moments,
 };
-use verb_bytes::{CycleAsk, JournalRecord, act_text_from, item_text_from, spell_snapshot};
+use verb_bytes::{JournalRecord, act_text_from, item_text_from, spell_snapshot};
 use verb_core::{Act, BoxId, Conf, Deed, House, Item, Mailbox, Rows};
 
 // ---- the users of an item
@@ -201,7 +200,7 @@ fn enter_act(
     enter(alloc, desk, item_of(number, at, act), place, from)
 }
 
-// ---- a cycle
+// ---- a request
 
 /// Whether the users that acts name are known.
 fn acts_known(house: &House, acts: &[Act]) -> bool
@@ -210,14 +209,24 @@ fn acts_known(house: &House, acts: &[Act]) -> bool
     acts.iter().all(|act| act_knows(house, act))
 }
 
-/// Whether a cycle can follow: it has the next number, and the users that its acts name are known.
-fn can_rewind(desk: &Desk, number: u32, ask: &CycleAsk) -> bool
-    ensures { result ≡ rewinds desk.now.kept number ask.now }
+/// Whether the users of the acts that a request brings are known.
+fn brings_known(house: &House, asked: &Request<'_>) -> bool
+    ensures { result ≡ knows_acts house.now asked.now }
 {
-    number == desk.next() && acts_known(desk.house(), ask.inserts.as_slice())
+    match asked {
+        Request::Cycle(ask) => acts_known(house, ask.inserts.as_slice()),
+        Request::Withdrawal(_, _) => true,
+    }
 }
 
-/// Whether no cycle had a key.
+/// Whether a request can follow: it has the next number, and the users that its acts name are known.
+fn can_redo(desk: &Desk, number: u32, asked: &Request<'_>) -> bool
+    ensures { result ≡ redoes desk.now.kept number asked.now }
+{
+    number == desk.next() && brings_known(desk.house(), asked)
+}
+
+/// Whether no request had a key.
 fn is_new(desk: &Desk, key: &Name) -> bool
     ensures { result ≡ is_none (report_of desk.now.kept.reports key.now) }
 {
@@ -253,33 +262,32 @@ fn replace_with(
     }
 }
 
-/// Puts what a cycle leaves in place.
+/// Puts what comes of a request in place, whose record lies at a place.
 fn put_in_place(
     alloc: Global,
     desk: &mut Desk,
-    ask: CycleAsk,
+    asked: &Request<'_>,
     made: Rewound,
     place: Place,
 ) -> Result<bool, ReadFault>
     requires fit { IsFit desk.old.kept made }
-    requires undone { CanBeUndone desk.old.kept true made }
-    ensures kept { IfOk result (λ stood. (stood ≡ true) × (desk.new.kept ≡ after_rewound desk.old.kept ask.key true made)) }
-    ensures notes { (at : ℕ) → OnOk result (NotesCycle desk.old.kept.next at ask place desk.old.notes desk.old.kept.texts (asked_then desk.old.kept true made) desk.new.notes) }
+    requires undone { CanBeUndone desk.old.kept (undoes_of asked.now) made }
+    ensures kept { IfOk result (λ stood. (stood ≡ true) × (desk.new.kept ≡ after_rewound desk.old.kept (key_of asked.now) (undoes_of asked.now) made)) }
+    ensures notes { (at : ℕ) → OnOk result (NotesFor desk.old at asked.now place made desk.new.notes) }
     ensures sizes { OnOk result (SizesOf desk.new.notes desk.new.kept.texts (items_asked desk.new.kept)) }
     ensures marks { OnOk result (desk.new.marks ≡ marks_at_or_before made.place desk.old.marks) }
     ensures never { IsErrOf result ReadFault.Disk → ⊥ }
 {
-    match fresh_of(alloc, desk.next(), &ask, place) {
-        Ok(fresh) => replace_with(alloc, desk, key_in(ask), true, made, fresh),
+    match asked.placed(alloc, desk.next(), place) {
+        Ok((key, fresh)) => replace_with(alloc, desk, key, asked.undoes(), made, fresh),
         Err(NoMemory) => {
-            drop(ask);
             drop(made);
             Err(ReadFault::NoMemory)
         }
     }
 }
 
-/// A cycle can't stand that is refused for more than a read that failed, and want of memory.
+/// A request can't stand that is refused for more than a read that failed, and want of memory.
 fn none_due(refused: CycleRefused) -> Result<bool, ReadFault>
     ensures none { IfOk result (λ stood. stood ≡ false) }
     ensures disk { IsErrOf result ReadFault.Disk → refused ≡ CycleRefused.Disk }
@@ -294,166 +302,42 @@ fn none_due(refused: CycleRefused) -> Result<bool, ReadFault>
     }
 }
 
-/// Performs a cycle under a new key, where its point is known and numbers are left.
-fn rewind_anew<D: Disk>(
-    alloc: Global,
-    past: &mut Past<D>,
-    desk: &mut Desk,
-    at: u64,
-    ask: CycleAsk,
-    place: Place,
-) -> Result<bool, ReadFault>
-    requires moment { at ≤ LAST_MOMENT }
-    requires known { IsTrue (acts_name_known desk.old.kept.house ask.inserts) }
-    requires noted { AreNoted past.old.end desk.old }
-    requires place { place.gate + 5 + place.length ≤ past.old.end }
-    requires long { place.length ≡ length (record_bytes (Cycle desk.old.kept.next at ask)) }
-    ensures performed { (payloads : List (List ℕ)) → TextsHeld (D.told past.old.disk) payloads desk.old.kept desk.old.notes desk.old.marks
-        → IfOk result (λ stood. Performs (after_due (after_cycle desk.old.kept ask) (due_anew desk.old.kept at ask)) stood desk.new.kept) }
-    ensures texts { (payloads : List (List ℕ)) → TextsHeld (D.told past.old.disk) payloads desk.old.kept desk.old.notes desk.old.marks
-        → LiesAt payloads place.gate place.length (record_bytes (Cycle desk.old.kept.next at ask))
-        → IfOk result (λ stood. stood ≡ true → TextsStored payloads desk.new.notes desk.new.kept) }
-    ensures marks { (payloads : List (List ℕ)) → TextsHeld (D.told past.old.disk) payloads desk.old.kept desk.old.notes desk.old.marks
-        → LiesAt payloads place.gate place.length (record_bytes (Cycle desk.old.kept.next at ask))
-        → IfOk result (λ stood. stood ≡ true → MarksLie payloads desk.new.kept desk.new.marks) }
-    ensures noted { IfOk result (λ stood. stood ≡ true → AreNoted past.old.end desk.new) }
-    ensures still { IsPastRead D.told past.old past.new }
-    ensures cause { ReadAtCause (D.told past.old.disk) (D.told past.new.disk) result }
-{
-    desk.stands();
-    match rework_again(alloc, past, desk, at, &Request::Cycle(&ask)) {
-        Ok(made) => put_in_place(alloc, desk, ask, made, place),
-        Err(refused) => {
-            drop(ask);
-            none_due(refused)
-        }
-    }
-}
-
-/// Performs a cycle, where it can stand: its number is the next, its users are known, its key is new, its point known, and
-/// numbers are left. Texts of deliveries are read where they lie.
-fn rewind<D: Disk>(
+/// Performs a request whose record lies at a place, where it can stand. Its number is the next, the users of its acts are known, its
+/// key is new, what it goes back to is there, and numbers are left. Texts of deliveries are read where they lie.
+fn redo<D: Disk>(
     alloc: Global,
     past: &mut Past<D>,
     desk: &mut Desk,
     number: u32,
     at: u64,
-    ask: CycleAsk,
+    asked: &Request<'_>,
     place: Place,
 ) -> Result<bool, ReadFault>
-    requires spelled { HasSpelling (Cycle number at ask) }
+    requires spelled { HasSpelling (record_of number at asked.now) }
     requires noted { AreNoted past.old.end desk.old }
     requires place { place.gate + 5 + place.length ≤ past.old.end }
-    requires long { place.length ≡ length (record_bytes (Cycle number at ask)) }
+    requires long { place.length ≡ length (record_bytes (record_of number at asked.now)) }
     ensures performed { (payloads : List (List ℕ)) → TextsHeld (D.told past.old.disk) payloads desk.old.kept desk.old.notes desk.old.marks
-        → IfOk result (λ stood. Performs (after_cycle_record desk.old.kept number at ask) stood desk.new.kept) }
+        → IfOk result (λ stood. Performs (after_record desk.old.kept (record_of number at asked.now)) stood desk.new.kept) }
     ensures texts { (payloads : List (List ℕ)) → TextsHeld (D.told past.old.disk) payloads desk.old.kept desk.old.notes desk.old.marks
-        → LiesAt payloads place.gate place.length (record_bytes (Cycle number at ask))
+        → LiesAt payloads place.gate place.length (record_bytes (record_of number at asked.now))
         → IfOk result (λ stood. stood ≡ true → TextsStored payloads desk.new.notes desk.new.kept) }
     ensures marks { (payloads : List (List ℕ)) → TextsHeld (D.told past.old.disk) payloads desk.old.kept desk.old.notes desk.old.marks
-        → LiesAt payloads place.gate place.length (record_bytes (Cycle number at ask))
         → IfOk result (λ stood. stood ≡ true → MarksLie payloads desk.new.kept desk.new.marks) }
     ensures noted { IfOk result (λ stood. stood ≡ true → AreNoted past.old.end desk.new) }
     ensures still { IsPastRead D.told past.old past.new }
     ensures cause { ReadAtCause (D.told past.old.disk) (D.told past.new.disk) result }
 {
     spelled_cycles_have_moments();
-    if !can_rewind(desk, number, &ask) || !is_new(desk, &ask.key) {
-        drop(ask);
-        return Ok(false);
-    }
-    rewind_anew(alloc, past, desk, at, ask, place)
-}
-
-// ---- a withdrawal
-
-/// Puts what a withdrawal leaves in place: its record brings no texts.
-fn put_back(
-    alloc: Global,
-    desk: &mut Desk,
-    key: Name,
-    made: Rewound,
-    place: Place,
-) -> Result<bool, ReadFault>
-    requires { IsFit desk.old.kept made }
-    ensures kept { IfOk result (λ stood. (stood ≡ true) × (desk.new.kept ≡ after_rewound desk.old.kept key false made)) }
-    ensures notes { OnOk result (NotesNone place desk.old.notes desk.old.kept.texts (asked_then desk.old.kept false made) desk.new.notes) }
-    ensures sizes { OnOk result (SizesOf desk.new.notes desk.new.kept.texts (items_asked desk.new.kept)) }
-    ensures marks { OnOk result (desk.new.marks ≡ marks_at_or_before made.place desk.old.marks) }
-    ensures never { IsErrOf result ReadFault.Disk → ⊥ }
-{
-    replace_with(alloc, desk, key, false, made, no_fresh(alloc, place))
-}
-
-/// Whether a number is the next one.
-fn is_next(desk: &Desk, number: u32) -> bool
-    ensures { result ≡ (number == desk.now.kept.next) }
-{
-    number == desk.next()
-}
-
-/// Performs a withdrawal under a new key, where its cycle is the last of all cycles and withdrawals, and numbers are left.
-fn withdraw_anew<D: Disk>(
-    alloc: Global,
-    past: &mut Past<D>,
-    desk: &mut Desk,
-    at: u64,
-    key: Name,
-    of: u32,
-    place: Place,
-) -> Result<bool, ReadFault>
-    requires moment { at ≤ LAST_MOMENT }
-    requires noted { AreNoted past.old.end desk.old }
-    ensures performed { (payloads : List (List ℕ)) → TextsHeld (D.told past.old.disk) payloads desk.old.kept desk.old.notes desk.old.marks
-        → IfOk result (λ stood. Performs (after_due (after_withdrawal desk.old.kept key) (withdraw_due_anew desk.old.kept at of)) stood desk.new.kept) }
-    ensures texts { (payloads : List (List ℕ)) → TextsHeld (D.told past.old.disk) payloads desk.old.kept desk.old.notes desk.old.marks
-        → IfOk result (λ stood. stood ≡ true → TextsStored payloads desk.new.notes desk.new.kept) }
-    ensures marks { (payloads : List (List ℕ)) → TextsHeld (D.told past.old.disk) payloads desk.old.kept desk.old.notes desk.old.marks
-        → IfOk result (λ stood. stood ≡ true → MarksLie payloads desk.new.kept desk.new.marks) }
-    ensures noted { IfOk result (λ stood. stood ≡ true → AreNoted past.old.end desk.new) }
-    ensures still { IsPastRead D.told past.old past.new }
-    ensures cause { ReadAtCause (D.told past.old.disk) (D.told past.new.disk) result }
-{
-    desk.stands();
-    match rework_again(alloc, past, desk, at, &Request::Withdrawal(&key, of)) {
-        Ok(made) => put_back(alloc, desk, key, made, place),
-        Err(refused) => {
-            drop(key);
-            none_due(refused)
-        }
-    }
-}
-
-/// Performs a withdrawal, where it can stand: its number is the next, its key is new, its cycle is the last of all cycles and
-/// withdrawals, and numbers are left. Texts of deliveries are read where they lie.
-fn withdraw<D: Disk>(
-    alloc: Global,
-    past: &mut Past<D>,
-    desk: &mut Desk,
-    number: u32,
-    at: u64,
-    key: Name,
-    of: u32,
-    place: Place,
-) -> Result<bool, ReadFault>
-    requires spelled { HasSpelling (Withdraw number at key of) }
-    requires noted { AreNoted past.old.end desk.old }
-    ensures performed { (payloads : List (List ℕ)) → TextsHeld (D.told past.old.disk) payloads desk.old.kept desk.old.notes desk.old.marks
-        → IfOk result (λ stood. Performs (after_withdraw_record desk.old.kept number at key of) stood desk.new.kept) }
-    ensures texts { (payloads : List (List ℕ)) → TextsHeld (D.told past.old.disk) payloads desk.old.kept desk.old.notes desk.old.marks
-        → IfOk result (λ stood. stood ≡ true → TextsStored payloads desk.new.notes desk.new.kept) }
-    ensures marks { (payloads : List (List ℕ)) → TextsHeld (D.told past.old.disk) payloads desk.old.kept desk.old.notes desk.old.marks
-        → IfOk result (λ stood. stood ≡ true → MarksLie payloads desk.new.kept desk.new.marks) }
-    ensures noted { IfOk result (λ stood. stood ≡ true → AreNoted past.old.end desk.new) }
-    ensures still { IsPastRead D.told past.old past.new }
-    ensures cause { ReadAtCause (D.told past.old.disk) (D.told past.new.disk) result }
-{
     spelled_withdrawals_have_moments();
-    if !is_next(desk, number) || !is_new(desk, &key) {
-        drop(key);
+    desk.stands();
+    if !can_redo(desk, number, asked) || !is_new(desk, asked.key()) {
         return Ok(false);
     }
-    withdraw_anew(alloc, past, desk, at, key, of, place)
+    match rework_again(alloc, past, desk, at, asked) {
+        Ok(made) => put_in_place(alloc, desk, asked, made, place),
+        Err(refused) => none_due(refused),
+    }
 }
 
 // ---- a snapshot
@@ -651,6 +535,55 @@ pub(crate) fn without_reads(stood: Result<bool, NoMemory>) -> Result<bool, ReadF
     }
 }
 
+/// What a record asks of the past, with its number and its moment. One of another kind asks nothing.
+fn asked_in(what: &JournalRecord) -> Option<(u32, u64, Request<'_>)>
+    ensures asked { IfSome result (λ found. what.now ≡ record_of found.0 found.1 found.2) }
+    ensures alone { IsTrue (is_none result) → asks what.now ≡ false }
+{
+    match what {
+        JournalRecord::Cycle { number, at, ask } => Some((*number, *at, Request::Cycle(ask))),
+        JournalRecord::Withdraw {
+            number,
+            at,
+            key,
+            of,
+        } => Some((*number, *at, Request::Withdrawal(key, *of))),
+        _ => None,
+    }
+}
+
+/// Performs a record that asks nothing of the past, where it can stand, and answers whether it can. The text that it has is noted.
+fn enter_alone(
+    alloc: Global,
+    desk: &mut Desk,
+    end: u64,
+    what: JournalRecord,
+    place: Place,
+) -> Result<bool, NoMemory>
+    requires alone { asks what ≡ false }
+    requires spelled { HasSpelling what }
+    requires place { place.gate + 5 + place.length ≤ end }
+    requires long { place.length ≡ length (record_bytes what) }
+    ensures entered { IfOk result (λ stood. Performs (after_record desk.old.kept what) stood desk.new.kept) }
+    ensures noted { IfOk result (λ stood. stood ≡ true → NotesTexts end place (record_bytes what) desk.old desk.new) }
+    ensures marked { IfOk result (λ stood. stood ≡ true → KeepsMarks end place (record_bytes what) desk.old desk.new) }
+{
+    match what {
+        JournalRecord::Verb(item) => enter_verb(alloc, desk, end, item, place),
+        JournalRecord::Operator { number, at, act } => {
+            enter_act(alloc, desk, end, number, at, act, place)
+        }
+        JournalRecord::Snapshot { items, conf, rows } => {
+            enter_snapshot(alloc, desk, end, items, conf, rows, place)
+        }
+        JournalRecord::Upgrade { at } => Ok(enter_upgrade(desk, at)),
+        other => {
+            drop(other);
+            Ok(false)
+        }
+    }
+}
+
 /// Performs a record that lies at a place behind others, where it can stand, and answers whether it can. The texts that it
 /// has are noted.
 pub(crate) fn follow<D: Disk>(
@@ -676,55 +609,12 @@ pub(crate) fn follow<D: Disk>(
     ensures still { IsPastRead D.told past.old past.new }
     ensures cause { ReadAtCause (D.told past.old.disk) (D.told past.new.disk) result }
 {
-    match what {
-        JournalRecord::Verb(item) => without_reads(enter_verb(
-            alloc,
-            desk,
-            past.end(),
-            item,
-            place,
-        )),
-        JournalRecord::Operator { number, at, act } => {
-            without_reads(enter_act(alloc, desk, past.end(), number, at, act, place))
+    match asked_in(&what) {
+        Some((number, at, asked)) => {
+            let stood = redo(alloc, past, desk, number, at, &asked, place);
+            drop(what);
+            stood
         }
-        JournalRecord::Cycle { number, at, ask } => {
-            rewind(alloc, past, desk, number, at, ask, place)
-        }
-        JournalRecord::Withdraw {
-            number,
-            at,
-            key,
-            of,
-        } => withdraw(alloc, past, desk, number, at, key, of, place),
-        JournalRecord::Format(house, conf) => {
-            drop(house);
-            drop(conf);
-            Ok(false)
-        }
-        JournalRecord::Snapshot { items, conf, rows } => {
-            without_reads(enter_snapshot(alloc, desk, past.end(), items, conf, rows, place))
-        }
-        JournalRecord::Upgrade { at } => Ok(enter_upgrade(desk, at)),
-        JournalRecord::Base {
-            conf,
-            rows,
-            stamps,
-            reports,
-            ..
-        } => {
-            drop(conf);
-            drop(rows);
-            drop(stamps);
-            drop(reports);
-            Ok(false)
-        }
-        JournalRecord::Text { text, .. } => {
-            drop(text);
-            Ok(false)
-        }
-        JournalRecord::Kept(item) => {
-            drop(item);
-            Ok(false)
-        }
+        None => without_reads(enter_alone(alloc, desk, past.end(), what, place)),
     }
 }
