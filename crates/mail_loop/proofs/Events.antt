@@ -28,6 +28,14 @@ use Rattle.mail_loop.proofs.Sealed.{added_if, no_more, none_before}
 use Rattle.mail_loop.proofs.Seats.{remove_set}
 use Rattle.mail_loop.proofs.Stretch.{HeardAlone}
 
+-- any event but the end
+pub no_end : (w : What) → (w ≡ End → ⊥) → is_end w ≡ false
+no_end (Joined role) other = refl
+no_end (Bytes bytes) other = refl
+no_end Left other = refl
+no_end Idle other = refl
+no_end End other = absurd (other refl)
+
 -- bytes for a connection that is not open
 pub bytes_ignored : {T : Type 0} → (S : List JournalRecord → TurnCounts → Type 0) (conn at : ℕ) (kept : Kept) (es es' : Seats) (bytes : List ℕ) (view : T → List Reply) (stops : T → Bool) (answer : T)
     → None ≡ lookup (is_at (nat_cmp conn)) es → es' ≡ es → view answer ≡ [] → stops answer ≡ false → S [] none_counted

@@ -148,6 +148,29 @@ told_not old new conn (b ∷ bytes) closes NoMemory some sent = record {
   goes = wanted_none old new sent;
 }
 
+-- a reply behind which its connection stays open
+pub replied_open : (old new : LinkTold) (r : Reply) (stays : Bool) → stays ≡ true → Told old new r stays → Replied old new r (Ok true)
+replied_open old new r stays open' t =
+    let string = string_notes t.delivery r.conn r.said in
+    let last : true ≡ remains t.delivery r.said r.closes = sym open' ∙ t.stays_is in
+    (t.delivery, t.licensed, last, subst (λ n. Goes old new n) (sym (append-nil string) ∙ ap (λ b. string ++ close_notes r.conn b) last) t.goes)
+
+-- a reply behind which its connection is closed
+pub replied_closed : (old mid new : LinkTold) (r : Reply) (stays : Bool) → stays ≡ false → Told old mid r stays → new ≡ record mid { log = then_told mid.log (Closed r.conn ∷ []); out_of_memory_last = false }
+    → Replied old new r (Ok false)
+replied_closed old mid new r stays shut t is =
+    let string = string_notes t.delivery r.conn r.said in
+    let last : false ≡ remains t.delivery r.said r.closes = sym shut ∙ t.stays_is in (
+      t.delivery,
+      record {
+        rose = subst (λ m. RoseAtLeast (missed_of (t.delivery ∷ [])) old.missed m) (sym (ap (λ (l : LinkTold). l.missed) is)) t.licensed.rose;
+        out_of_memory = subst (λ m. Counted (left_out_of (t.delivery ∷ []) + 0) old.out_of_memory m) (sym (ap (λ (l : LinkTold). l.out_of_memory) is)) t.licensed.out_of_memory;
+        reliable = t.licensed.reliable;
+      },
+      last,
+      subst (λ n. Goes old new n) (ap (λ b. string ++ close_notes r.conn b) last) (goes_on_goes old mid new string (Closed r.conn ∷ []) t.goes (one_note mid new (Closed r.conn) is)),
+    )
+
 -- a reply whose close found no memory
 pub replied_unclosed : (old mid new : LinkTold) (r : Reply) (stays : Bool) (w : WantOfMemory) (result : Result Bool WantOfMemory) → result ≡ Err w → stays ≡ false
     → Told old mid r stays → Wants mid new → Replied old new r result

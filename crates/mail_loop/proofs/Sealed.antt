@@ -1,6 +1,7 @@
 -- What the desk sealed, call after call.
 use Rattle.std.specs.Prelude.{if◌then◌else◌}
-use Rattle.std.proofs.Common.{◌≡◌, ◌≢◌, ℕ, ◌+◌, arith, add-zero, zero-add, Bool, true, false, not, nat_le, ◌||◌, ◌&&◌, List, [], ◌∷◌, ◌++◌, None, Some, Option, MatchOption, Result, Ok, Err, IfOk, IfErr, OnErr, OnOk, inl, inr, ◌⊎◌, refl, ap, sym, subst, ◌∙◌}
+use Rattle.std.proofs.lemmas.Bool.{le-leb, lt-leb}
+use Rattle.std.proofs.Common.{◌≡◌, ◌≢◌, ◌<◌, ◌≤◌, ℕ, ◌+◌, arith, add-zero, zero-add, Bool, true, false, not, nat_le, ◌||◌, ◌&&◌, List, [], ◌∷◌, ◌++◌, None, Some, Option, MatchOption, Result, Ok, Err, IfOk, IfErr, OnErr, OnOk, inl, inr, ◌⊎◌, refl, ap, sym, subst, ◌∙◌}
 use Rattle.undo_base.specs.declared.keys.User.{User}
 use Rattle.undo_outside.specs.Disk.{DiskTold, ReadFailed, WriteOutOfMemory}
 use Rattle.seal_log.specs.Causes.{FindsMemory, SealWants, RunsOutOfMemory}
@@ -68,6 +69,22 @@ unwritten_on k desk = if is_due_on desk then unwritten_by k else 0
 -- none, where it was passed over
 pub passed_on : {D : Type 0} → (desk : Lasting D) → unwritten_on IsPassed desk ≡ 0
 passed_on desk = elim (is_due_on desk) as (λ b. (if b then unwritten_by IsPassed else 0) ≡ 0) [ true ↦ refl | false ↦ refl ]
+
+-- no snapshot is due of a closed desk
+pub none_shut : {D : Type 0} → (a : Lasting D) → a.closed ≡ true → is_due_on a ≡ false
+none_shut a shut = ap (λ (x : Bool). not x && nat_le 1024 a.kept.marks.since) shut
+
+-- nor before so many items entered
+pub few_since : {D : Type 0} → (a : Lasting D) (n : ℕ) → n ≡ a.kept.marks.since → n < 1024 → is_due_on a ≡ false
+few_since a n is few = ap (λ (x : Bool). not a.closed && x) (lt-leb 1024 a.kept.marks.since (subst (λ (m : ℕ). m < 1024) is few)) ∙ none_of (not a.closed)
+  where
+    none_of : (b : Bool) → (b && false) ≡ false
+    none_of true = refl
+    none_of false = refl
+
+-- of an open desk one is due then
+pub due_since : {D : Type 0} → (a : Lasting D) (n : ℕ) → a.closed ≡ false → n ≡ a.kept.marks.since → 1024 ≤ n → is_due_on a ≡ true
+due_since a n open' is many = ap (λ (x : Bool). not x && nat_le 1024 a.kept.marks.since) open' ∙ le-leb 1024 a.kept.marks.since (subst (λ (m : ℕ). 1024 ≤ m) is many)
 
 -- nor is one due of a closed desk
 pub shut_on : {D : Type 0} → (k : Keeping) (desk : Lasting D) → desk.closed ≡ true → unwritten_on k desk ≡ 0

@@ -2,11 +2,14 @@
 use Rattle.std.proofs.Common.{◌≡◌, ℕ, Bool, true, false, cond, List, [], ◌∷◌, None, Some, Option, is_some, suc, ◌<◌, ◌≤◌, ◌-◌, length, take, drop, get_or, arith, refl, ap, sym, ◌∙◌}
 use Rattle.std.proofs.lemmas.List.{take_all}
 use Rattle.std.proofs.lemmas.List.Elements.{All-nil}
+use Rattle.std.proofs.lemmas.Map.Views.{All-map-remove_entry}
+use Rattle.std.specs.BTreeMap.{is_at}
+use Rattle.std.specs.Ordering.{nat_cmp}
 use Rattle.std.specs.Map.{remove_entry, set_value}
 use Rattle.verb_core.specs.declared.conf.House.{House}
 use Rattle.undo_outside.specs.declared.event.Role.{Role}
-use Rattle.mail_loop.specs.State.{Seat, State}
-use Rattle.mail_loop.specs.Machine.{joins, admits, ignored}
+use Rattle.mail_loop.specs.State.{Seat, Seats, State}
+use Rattle.mail_loop.specs.Machine.{after_reply, joins, admits, ignored}
 use Rattle.mail_loop.specs.Stands.{AreHome, IsHome}
 
 -- what is set and then removed was removed
@@ -54,3 +57,12 @@ first_and_rest (y ∷ xs) x h is =
 -- no connection is open
 pub none_home : (house : House) → AreHome house []
 none_home house = All-nil (IsHome house)
+
+-- a connection is forgotten, unless it stays open
+pub home_after : (house : House) (stays : Bool) (conn : ℕ) (es : Seats) → AreHome house es → AreHome house (after_reply stays conn es)
+home_after house true conn es held = held
+home_after house false conn es held = All-map-remove_entry (is_at (nat_cmp conn)) (λ e. e.1) (IsHome house) es held
+
+pub fewer_after : (stays : Bool) (conn : ℕ) (es : Seats) → length (after_reply stays conn es) ≤ length es
+fewer_after true conn es = omega arith
+fewer_after false conn es = fewer_left (is_at (nat_cmp conn)) es

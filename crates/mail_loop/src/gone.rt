@@ -11,7 +11,7 @@ use undo_base::NoMemory;
 use verb_core::BoxId;
 
 /// Mailboxes, in the order in which they were taken away.
-#[derive(Debug, Drop)]
+#[derive(Drop)]
 pub struct Gone {
     boxes: Vec<BoxId>,
 }

@@ -12,7 +12,7 @@
 //! the answer and the close can be cut short by nothing but a `close` that found no memory.
 ghost use Rattle.std.specs.Prelude.{◌≡◌, ◌<◌, ◌≤◌, ◌∷◌, [], length, nat_lt, option_map, position, vec_capacity, vec_len, IfOk};
 ghost use Rattle.std.specs.List.{insert};
-ghost use Rattle.mail_loop.specs.Machine.{parting, told_other, told_others, with_reply};
+ghost use Rattle.mail_loop.specs.Machine.{told_other, told_others, with_reply};
 ghost use Rattle.mail_loop.specs.Stands.{letter_of, replies_of, reply_of, said_of};
 
 use crate::aftermath::Aftermath;
@@ -24,7 +24,7 @@ use std::collections::BTreeMap;
 use undo_base::{NoMemory, Text};
 
 /// The string of a connection: its turns' answers, that its mailbox changed, that the store was rewound or upgraded, or nothing.
-#[derive(Debug, Drop)]
+#[derive(Drop)]
 pub enum Said {
     Answers(Text),
     Changed,
@@ -34,7 +34,7 @@ pub enum Said {
 }
 
 /// What a connection is told at the end of an event, and whether it is closed then.
-#[derive(Debug, Drop)]
+#[derive(Drop)]
 pub struct Letter {
     pub conn: u32,
     pub said: Said,
@@ -72,17 +72,6 @@ fn first_behind(conn: u32, letters: &[Letter]) -> Option<usize>
     letters.iter().position(|letter| conn < letter.conn)
 }
 
-/// The last letter to a connection.
-fn last_letter(conn: u32, said: Said) -> Letter
-    ensures { letter_of result ≡ parting conn (said_of said) }
-{
-    Letter {
-        conn,
-        said,
-        closes: true,
-    }
-}
-
 /// Room for a letter to each open connection, and one more.
 pub fn room_for_letters(
     alloc: Global,
@@ -110,13 +99,16 @@ fn letter_to(
         return None;
     }
     match connection.last_words(aftermath) {
-        Some(said) => Some(last_letter(number, said)),
+        Some(said) => Some(Letter {
+            conn: number,
+            said,
+            closes: true,
+        }),
         None => None,
     }
 }
 
-/// The letters to the other connections that are told of what follows, by rising connection. They are looked at only where
-/// something follows. There is room for the letters.
+/// The letters to the other connections that are told of what follows, by rising connection. There is room for the letters.
 fn letters_to_others(
     room: Vec<Letter>,
     connections: &BTreeMap<u32, Connection>,
@@ -128,9 +120,6 @@ fn letters_to_others(
     ensures letters { replies_of result.items ≡ told_others conn aftermath.now connections.now.entries }
     ensures room { vec_len result < vec_capacity result }
 {
-    if aftermath.is_quiet() {
-        return room;
-    }
     let mut letters = room;
     for (number, connection) in connections {
         if let Some(letter) = letter_to(*number, connection, conn, aftermath) {
@@ -151,7 +140,8 @@ fn with_letter(letters: Vec<Letter>, place: usize, letter: Letter) -> Vec<Letter
     letters
 }
 
-/// The letters of an event, which take no memory: that of the connection's own turns in its place among those of others.
+/// The letters of an event, which take no memory: that of the connection's own turns in its place among those of others. The others
+/// are looked at only where something follows.
 pub fn letters_of(
     room: Vec<Letter>,
     connections: &BTreeMap<u32, Connection>,
@@ -169,13 +159,18 @@ pub fn letters_of(
         stops: _,
         aftermath,
     } = turned;
-    let letters = letters_to_others(room, connections, conn, &aftermath);
-    let others = letters.as_slice();
-    let place = first_behind(own, others).unwrap_or(others.len());
     let letter = Letter {
         conn: own,
         said: Said::Answers(said),
         closes,
     };
+    if aftermath.is_quiet() {
+        let mut letters = room;
+        letters.push_reserved(letter);
+        return letters;
+    }
+    let letters = letters_to_others(room, connections, conn, &aftermath);
+    let others = letters.as_slice();
+    let place = first_behind(own, others).unwrap_or(others.len());
     with_letter(letters, place, letter)
 }

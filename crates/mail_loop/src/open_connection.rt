@@ -60,7 +60,7 @@ enum Kind {
 }
 
 /// The connection that an event is about, and the event's moment.
-#[derive(Clone, Copy, Debug)]
+#[derive(Clone, Copy)]
 pub struct Occasion {
     pub conn: u32,
     pub at: u64,

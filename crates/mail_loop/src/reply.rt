@@ -10,7 +10,7 @@ use std::alloc::Global;
 use undo_base::{NoMemory, Text};
 
 /// What a connection's turns say, whether it is closed then, and the mailboxes that they took away.
-#[derive(Debug, Drop)]
+#[derive(Drop)]
 pub struct Reply {
     pub conn: u32,
     pub said: Text,

@@ -18,7 +18,7 @@
 //!
 //! A console's stop ends serving after its event with Ok, before any later event; where memory is wanted for that event's strings
 //! the answer is want of memory. After a stop no step follows (`NoStop`).
-ghost use Rattle.std.specs.Prelude.{◌≡◌, ◌≤◌, ℕ, Bool, List, OnErr, false, [], length};
+ghost use Rattle.std.specs.Prelude.{◌≡◌, ◌≤◌, ℕ, Bool, List, OnErr, false, []};
 ghost use Rattle.std.specs.List.{list_any};
 ghost use Rattle.console_head.specs.Request.{Stage};
 ghost use Rattle.undo_outside.specs.declared.event.LinkNote.{LinkNote};
@@ -31,11 +31,11 @@ ghost use Rattle.desk_journal.specs.Stored.{HoldsTexts};
 ghost use Rattle.mail_loop.specs.Asked.{HaveSealed};
 ghost use Rattle.mail_loop.specs.Hindrance.{Hindrance};
 ghost use Rattle.mail_loop.specs.Took.{IsNone};
-ghost use Rattle.mail_loop.specs.Machine.{Hindrances, Delivery, Keeping, admits, after_reply, answered, delivered, happens, hears_at, is_end, joins, seat_at};
+ghost use Rattle.mail_loop.specs.Machine.{Hindrances, Delivery, Keeping, admits, answered, delivered, happens, hears_at, joins, seat_at};
 ghost use Rattle.verb_core.specs.declared.conf.House.{House as TheHouse};
 ghost use Rattle.mail_loop.specs.Roles.{row_of};
 ghost use Rattle.mail_loop.specs.Stands.{AreHome, letter_of, replies_of};
-ghost use Rattle.mail_loop.specs.Did.{AreLicensed, Told, Replied, Sends, Leads, Answers, Opens, Keeps, is_due_on, unclosed_by};
+ghost use Rattle.mail_loop.specs.Did.{AreLicensed, Told, Sends, Leads, Answers, Opens, Keeps, unclosed_by};
 ghost use Rattle.mail_loop.specs.Serving.{Step, ServedOver, counts_in, ended_as, is_disk, unsealed_in};
 ghost use Rattle.mail_loop.specs.Acknowledged.{GoesThrough, WentThrough};
 
@@ -96,18 +96,7 @@ fn tell<L: Link>(link: &mut L, letter: &Letter) -> bool
     }
 }
 
-/// Sends the string of a reply, if there is one, and closes the connection where it is to be closed. Answers whether it stays open.
-fn deliver<L: Link>(link: &mut L, letter: &Letter) -> Result<bool, NoMemory>
-    ensures { Replied (L.told link.old) (L.told link.new) (letter_of letter.now) result }
-{
-    let stays = tell(link, letter);
-    if !stays {
-        link.close(letter.conn)?;
-    }
-    Ok(stays)
-}
-
-/// Sends the strings of an event, each followed by its close.
+/// Sends the strings of an event. A connection that does not stay open is closed behind its string, and forgotten.
 fn deliver_all<L: Link>(
     connections: &mut Connections,
     link: &mut L,
@@ -118,21 +107,13 @@ fn deliver_all<L: Link>(
         Sends (delivered ds connections.old.entries (replies_of letters.now)) (L.told link.old) (L.told link.new) connections.new.entries result }
 {
     for letter in letters {
-        let stays = deliver(link, letter)?;
-        keep_if(connections, letter.conn, stays);
+        if tell(link, letter) {
+            continue;
+        }
+        link.close(letter.conn)?;
+        connections.remove(&letter.conn);
     }
     Ok(())
-}
-
-/// Forgets a connection, unless it stays open.
-fn keep_if(connections: &mut Connections, conn: u32, stays: bool)
-    ensures entries { connections.new.entries ≡ after_reply stays conn connections.old.entries }
-    ensures fewer { length connections.new.entries ≤ length connections.old.entries }
-    ensures home { (house : TheHouse) → AreHome house connections.old.entries → AreHome house connections.new.entries }
-{
-    if !stays {
-        connections.remove(&conn);
-    }
 }
 
 /// Opens a connection of a role, whose client is told this. Where no memory is found for it none is opened.
@@ -233,7 +214,9 @@ fn hear_at<R: Threads + Sync, D: Disk + Drop, G: Gate>(
             hear(rt, alloc, desk, connection, occasion, gate, &in_use, bytes)
         }
     };
-    keep_if(connections, conn, !turned.closes);
+    if turned.closes {
+        connections.remove(&conn);
+    }
     let stops = turned.stops;
     let letters = letters_of(room, connections, conn, turned);
     Ok(Answer { letters, stops })
@@ -271,7 +254,7 @@ fn answer_event<R: Threads + Sync, D: Disk + Drop, G: Gate>(
             hear_at(rt, alloc, desk, connections, conn, at, gate, bytes.bytes())
         }
         What::Left => {
-            keep_if(connections, conn, false);
+            connections.remove(&conn);
             Ok(nothing(alloc))
         }
         What::Idle => Ok(nothing(alloc)),
@@ -279,21 +262,17 @@ fn answer_event<R: Threads + Sync, D: Disk + Drop, G: Gate>(
     }
 }
 
-/// Whether a snapshot is due: the desk is open, and at least so many items entered since the last.
-fn is_due<D: Disk>(desk: &Desk<D>) -> bool
-    ensures { result ≡ is_due_on desk.now }
-{
-    !desk.closed() && desk.since_snapshot() >= SNAPSHOT_AFTER
-}
-
-/// Takes the snapshot that is due. Where no memory is found for it it is left out; where it can't be sealed the desk is closed from
-/// then on.
+/// Takes the snapshot that is due: the desk is open, and at least so many items entered since the last. Where no memory is found for it
+/// it is left out; where it can't be sealed the desk is closed from then on.
 fn keep_up<D: Disk>(alloc: Global, desk: &mut Desk<D>)
     ensures home { desk.new.kept.house ≡ desk.old.kept.house }
     ensures keeps { (k : Keeping) × Keeps D.told k desk.old desk.new }
 {
     seals_join::<D>();
-    if !is_due(desk) {
+    if desk.closed() {
+        return;
+    }
+    if desk.since_snapshot() < SNAPSHOT_AFTER {
         return;
     }
     match desk.snapshot(alloc) {
@@ -364,7 +343,7 @@ fn serve_each<R: Threads + Sync, L: Link, D: Disk + Drop, G: Gate>(
             Err(Fault::Failed) => return Err(ServeFault::Link),
             Err(Fault::NoMemory) => return Err(ServeFault::NoMemory),
         };
-        if is_end_of(&event) {
+        if let What::End = &event.what {
             return end_serving(alloc, desk);
         }
         let sent = serve_event(rt, alloc, desk, &mut connections, link, gate, &event);
@@ -409,10 +388,4 @@ pub fn serve_events<R: Threads + Sync, L: Link, D: Disk + Drop, G: Gate>(
     desk.stands();
     records_let_uids_last();
     serve_each(rt, alloc, desk, link, gate, turns)
-}
-
-fn is_end_of(event: &Event) -> bool
-    ensures { result ≡ is_end event.now.what }
-{
-    matches!(&event.what, What::End)
 }

@@ -4,10 +4,11 @@ use Rattle.undo_base.specs.declared.memory.NoMemory.{NoMemory as WantOfMemory}
 use Rattle.undo_outside.specs.declared.event.What.{What}
 use Rattle.mail_loop.specs.declared.serve.Answer.{Answer}
 use Rattle.mail_loop.specs.Asked.{HaveSealed}
-use Rattle.mail_loop.specs.State.{State}
+use Rattle.mail_loop.specs.State.{Seats, State}
 use Rattle.mail_loop.specs.Machine.{answers}
 use Rattle.mail_loop.specs.Did.{Answers}
-use Rattle.mail_loop.specs.Stands.{replies_of}
+use Rattle.mail_loop.specs.Stands.{AreHome, replies_of}
+use Rattle.mail_loop.proofs.Seats.{home_after}
 use Rattle.mail_loop.proofs.Sealed.{none_sealed, unsealed}
 use Rattle.mail_loop.proofs.serve.answer_event.Goals as goal
 
@@ -53,7 +54,10 @@ pub returns-in_ok-letters-in-Joined-clause-home : goal.returns-in_ok-letters-in-
 returns-in_ok-letters-in-Joined-clause-home g c = c.join.ensures.home c.args.desk.now.kept.house c.requires.home
 
 pub returns-in-Left-clause-home : goal.returns-in-Left-clause-home
-returns-in-Left-clause-home g c = c.keep_if.ensures.home c.args.desk.now.kept.house c.requires.home
+returns-in-Left-clause-home g c =
+    let house = c.args.desk.now.kept.house in
+    let es = c.args.connections.now.entries in
+    subst (λ (l : Seats). AreHome house l) (sym c.remove.ensures.entries) (home_after house false c.args.event.now.conn es c.requires.home)
 
 pub returns-in-Left-clause-answers : goal.returns-in-Left-clause-answers
 returns-in-Left-clause-answers g c =
@@ -64,8 +68,8 @@ returns-in-Left-clause-answers g c =
       false,
       [],
       Ok None,
-      subst (λ (what : What). Answers S (answers what false [] (Ok None) (min event.at 253402300799) s event.conn) desk.kept c.keep_if.new.connections.entries (λ answer. replies_of answer.letters.items) (λ answer. answer.stops) (Ok c.nothing.result)) (sym c.in-Left.is)
-          ((refl, c.keep_if.ensures.entries, ap replies_of c.nothing.ensures.letters, c.nothing.ensures.goes_on), unsealed g.D.Disk.told c.seals_join.ensures.nothing desk, tt),
+      subst (λ (what : What). Answers S (answers what false [] (Ok None) (min event.at 253402300799) s event.conn) desk.kept c.remove.new.self.entries (λ answer. replies_of answer.letters.items) (λ answer. answer.stops) (Ok c.nothing.result)) (sym c.in-Left.is)
+          ((refl, c.remove.ensures.entries, ap replies_of c.nothing.ensures.letters, c.nothing.ensures.goes_on), unsealed g.D.Disk.told c.seals_join.ensures.nothing desk, tt),
     )
 
 pub returns-in-Idle-clause-answers : goal.returns-in-Idle-clause-answers

@@ -6,10 +6,10 @@ use Rattle.mail_loop.specs.State.{State, Seats}
 use Rattle.mail_loop.specs.Serving.{Step, is_disk}
 use Rattle.mail_loop.specs.Acknowledged.{GoesThrough, WentThrough}
 use Rattle.mail_loop.specs.Did.{is_due_on}
-use Rattle.mail_loop.specs.Machine.{Hindrances}
+use Rattle.mail_loop.specs.Machine.{Hindrances, is_end}
 use Rattle.mail_loop.specs.Stands.{AreHome}
 use Rattle.mail_loop.proofs.Courses.{ends_disk, none_through, one_more, went_end}
-use Rattle.mail_loop.proofs.Events.{leads_end}
+use Rattle.mail_loop.proofs.Events.{leads_end, no_end}
 use Rattle.mail_loop.proofs.Seats.{none_home}
 use Rattle.mail_loop.proofs.Sealed.{all_sealed, chained, is_due_on_open, some_unsealed, unsealed}
 use Rattle.mail_loop.proofs.Runs.{so_served_none, so_more, so_ended, so_failed, so_out_of_memory, so_stopped, so_unfed, so_unlinked}
@@ -23,8 +23,8 @@ loop-init g c = record {
   open' = c.requires.sealed;
 }
 
-pub returns-then-is_end_of-clause-serves : goal.returns-then-is_end_of-clause-serves
-returns-then-is_end_of-clause-serves g c =
+pub returns-in-End-clause-serves : goal.returns-in-End-clause-serves
+returns-in-End-clause-serves g c =
     let told = g.L.Link.told in
     let disk = g.D.Disk.told in
     let first = c.args.desk.now in
@@ -33,7 +33,7 @@ returns-then-is_end_of-clause-serves g c =
     let event = c.in-Ok.event in
     let s : State = record { kept = l.desk.kept; seats = l.connections.entries } in
     let (k, keeps) = c.end_serving.ensures.keeps in
-    let ends = sym c.is_end_of.ensures ∙ c.if-is_end_of.true in
+    let ends = ap is_end c.in-End.is in
     let due = is_due_on_open disk l.desk l.invariant.open' in
     so_ended (HaveSealed disk first l.desk) (HaveSealed disk l.desk new) (HaveSealed disk first new) (λ (q : List Step). WentThrough disk q first l.desk)
     (λ (h : Hindrances). GoesThrough disk s (record { event = event; hindrances = h }) l.desk new) (λ (q : List Step). WentThrough disk q first new)
@@ -48,8 +48,8 @@ returns-then-is_end_of-clause-serves g c =
     (chained disk c.seals_join.ensures.then first l.desk new)
     (λ steps h through is kept went. one_more disk first l.desk new s event steps h through is kept went)
 
-pub returns-then-is_end_of-clause-closed : goal.returns-then-is_end_of-clause-closed
-returns-then-is_end_of-clause-closed g c = sym (ap is_disk c.end_serving.ensures.ends ∙ ends_disk c.end_serving.new.desk.closed)
+pub returns-in-End-clause-closed : goal.returns-in-End-clause-closed
+returns-in-End-clause-closed g c = sym (ap is_disk c.end_serving.ensures.ends ∙ ends_disk c.end_serving.new.desk.closed)
 
 pub returns-then-closed-clause-serves : goal.returns-then-closed-clause-serves
 returns-then-closed-clause-serves g c =
@@ -76,7 +76,7 @@ returns-in-Err-clause-serves g c =
     so_out_of_memory (HaveSealed disk c.args.desk.now l.desk) (HaveSealed disk l.desk new.desk) (HaveSealed disk c.args.desk.now new.desk) (λ (q : List Step). WentThrough disk q c.args.desk.now l.desk)
     (λ (h : Hindrances). GoesThrough disk (record { kept = l.desk.kept; seats = l.connections.entries }) (record { event = c.in-Ok.event; hindrances = h }) l.desk new.desk) (λ (q : List Step). WentThrough disk q c.args.desk.now new.desk) l.counter c.args.turns (told c.args.link.now) (told l.link) (told c.next.new.self) (told new.link) c.args.desk.now.kept
     new.desk.kept (record { kept = l.desk.kept; seats = l.connections.entries }) new.connections.entries c.in-Ok.event sent.result _ l.invariant.served c.loop-test.true c.in-Ok.ensures
-    (sym c.is_end_of.ensures ∙ c.if-is_end_of.false) sent.ensures.leads c.in-Err.is
+    (no_end c.in-Ok.event.what c.in_default.not-End) sent.ensures.leads c.in-Err.is
     (λ failed counts seals. all_sealed disk l.desk new.desk failed counts l.invariant.open' (sym c.closed.ensures ∙ c.if-closed.false) seals)
     (chained disk c.seals_join.ensures.then c.args.desk.now l.desk new.desk)
     (λ steps h through is kept went. one_more disk c.args.desk.now l.desk new.desk (record { kept = l.desk.kept; seats = l.connections.entries }) c.in-Ok.event steps h through is kept went)
@@ -91,7 +91,7 @@ returns-then-stops-clause-serves g c =
     so_stopped (HaveSealed disk c.args.desk.now l.desk) (HaveSealed disk l.desk new.desk) (HaveSealed disk c.args.desk.now new.desk) (λ (q : List Step). WentThrough disk q c.args.desk.now l.desk)
     (λ (h : Hindrances). GoesThrough disk (record { kept = l.desk.kept; seats = l.connections.entries }) (record { event = c.in-Ok.event; hindrances = h }) l.desk new.desk) (λ (q : List Step). WentThrough disk q c.args.desk.now new.desk) l.counter c.args.turns (told c.args.link.now) (told l.link) (told c.next.new.self) (told new.link) c.args.desk.now.kept
     new.desk.kept (record { kept = l.desk.kept; seats = l.connections.entries }) new.connections.entries c.in-Ok.event sent.result c.in-Ok-sent.stops l.invariant.served c.loop-test.true c.in-Ok.ensures
-    (inr (sym c.is_end_of.ensures ∙ c.if-is_end_of.false, c.if-stops.true)) sent.ensures.leads c.in-Ok-sent.is
+    (inr (no_end c.in-Ok.event.what c.in_default.not-End, c.if-stops.true)) sent.ensures.leads c.in-Ok-sent.is
     (λ failed counts seals. all_sealed disk l.desk new.desk failed counts l.invariant.open' (sym c.closed.ensures ∙ c.if-closed.false) seals)
     (chained disk c.seals_join.ensures.then c.args.desk.now l.desk new.desk)
     (λ steps h through is kept went. one_more disk c.args.desk.now l.desk new.desk (record { kept = l.desk.kept; seats = l.connections.entries }) c.in-Ok.event steps h through is kept went)
@@ -108,7 +108,7 @@ loop-preserved g c =
       served = so_more (HaveSealed disk c.args.desk.now l.desk) (HaveSealed disk l.desk new.desk) (HaveSealed disk c.args.desk.now new.desk) (λ (q : List Step). WentThrough disk q c.args.desk.now l.desk)
           (λ (h : Hindrances). GoesThrough disk (record { kept = l.desk.kept; seats = l.connections.entries }) (record { event = c.in-Ok.event; hindrances = h }) l.desk new.desk) (λ (q : List Step). WentThrough disk q c.args.desk.now new.desk) l.counter (told c.args.link.now) (told l.link) (told c.next.new.self) (told new.link) c.args.desk.now.kept
           new.desk.kept s new.connections.entries c.in-Ok.event sent.result c.in-Ok-sent.stops
-          l.invariant.served c.in-Ok.ensures (sym c.is_end_of.ensures ∙ c.if-is_end_of.false) sent.ensures.leads c.in-Ok-sent.is c.if-stops.false
+          l.invariant.served c.in-Ok.ensures (no_end c.in-Ok.event.what c.in_default.not-End) sent.ensures.leads c.in-Ok-sent.is c.if-stops.false
           (λ failed counts seals. all_sealed disk l.desk new.desk failed counts l.invariant.open' (sym c.closed.ensures ∙ c.if-closed.false) seals)
           (chained disk c.seals_join.ensures.then c.args.desk.now l.desk new.desk)
           (λ steps h through is kept went. one_more disk c.args.desk.now l.desk new.desk (record { kept = l.desk.kept; seats = l.connections.entries }) c.in-Ok.event steps h through is kept went);
