@@ -14,19 +14,20 @@ use Rattle.console_head.specs.Request.{Stage}
 use Rattle.store_kept.specs.Kept.{Kept}
 use Rattle.desk_journal.specs.Lasting.{Lasting}
 use Rattle.desk_journal.specs.Stored.{HoldsTexts}
-use Rattle.mail_loop.specs.Acknowledged.{Course, Stretch, Went, behind, steps_of, turned}
+use Rattle.mail_loop.specs.Acknowledged.{Course, Stretch, Went, behind, sealed_in, steps_of, turned}
 use Rattle.mail_loop.specs.Hindrance.{Hindrance}
 use Rattle.mail_loop.specs.Machine.{Hindrances, admitted, answers, happens, hears_at, joins, seat_at}
 use Rattle.mail_loop.specs.Roles.{row_of}
 use Rattle.mail_loop.specs.Serving.{Step, at_first, run}
 use Rattle.mail_loop.specs.State.{Seat, Smtp, Imap, Http, Pop, State}
-use Rattle.cost_laws.specs.Courses.{AreServed, CostLittle, CostsLittle, EachCostsLittle, SealsFew, bytes_of, hearer, octets_in, read_by, read_in_step, read_in_steps, sealed_beside_consoles, sealed_by}
+use Rattle.cost_laws.specs.Courses.{AreServed, CostLittle, CostsLittle, EachCostsLittle, SealsFew, bytes_of, hearer, octets_in, read_by, read_in_step, read_in_steps}
 use Rattle.cost_laws.specs.Reads.{IsSmall, ReadsFew, TextRead, read_at}
 use Rattle.cost_laws.specs.Units.{IsServed}
 use Rattle.cost_laws.proofs.Events.{event_leaves, fresh_served}
 use Rattle.cost_laws.proofs.Lines.{LinesGoOn}
 use Rattle.cost_laws.proofs.Reading.{event_reads}
 use Rattle.cost_laws.proofs.Records.{progress, records_further}
+use Rattle.cost_laws.proofs.Requests.{request_sealed}
 use Rattle.cost_laws.proofs.Sealed.{sealed_few, snapshots_few}
 use Rattle.cost_laws.proofs.Seats.{found_so, happens_so}
 
@@ -103,7 +104,7 @@ module _ {D : Type 0} (told : D → DiskTold) (s : State) (old : Lasting D) (w :
       once (length w.sealed) (length bytes) (sealed_few told s old w went same holds (Smtp unserved d) bytes is there tt (served_at (Smtp unserved d) there))
   by_seat bytes is (Some (Imap stream d)) there =
       once (length w.sealed) (length bytes) (sealed_few told s old w went same holds (Imap stream d) bytes is there tt (served_at (Imap stream d) there))
-  by_seat bytes is (Some (Http came)) there = tt
+  by_seat bytes is (Some (Http came)) there = request_sealed told s old w went same holds came bytes is there
   by_seat bytes is (Some (Pop unserved d)) there =
       twice (length w.sealed) (length bytes) (sealed_few told s old w went same holds (Pop unserved d) bytes is there tt (served_at (Pop unserved d) there))
 
@@ -159,18 +160,18 @@ half_beside n m octets few le = omega (arith, few, le)
 all_beside : (n m octets : ℕ) → n ≤ octets + 1 → m ≤ 1 → n + m ≤ octets + 2
 all_beside n m octets few le = omega (arith, few, le)
 
-alone : (m octets : ℕ) → m ≤ 1 → m ≤ octets + 2
-alone m octets le = omega (arith, le)
+both_one : (n m octets : ℕ) → n ≤ 1 → m ≤ 1 → n + m ≤ octets + 2
+both_one n m octets few le = omega (arith, few, le)
 
-sealed_for : {D : Type 0} (o : Option Seat) (bytes : List ℕ) (w : Stretch D) → SealsFew o bytes (length w.sealed) → length w.snapshot ≤ 1 → sealed_by o w ≤ length bytes + 2
-sealed_for None bytes w few one = one_beside (length w.sealed) (length w.snapshot) (length bytes) few one
-sealed_for (Some (Smtp unserved d)) bytes w few one = half_beside (length w.sealed) (length w.snapshot) (length bytes) few one
-sealed_for (Some (Imap stream d)) bytes w few one = half_beside (length w.sealed) (length w.snapshot) (length bytes) few one
-sealed_for (Some (Http came)) bytes w few one = alone (length w.snapshot) (length bytes) one
-sealed_for (Some (Pop unserved d)) bytes w few one = all_beside (length w.sealed) (length w.snapshot) (length bytes) few one
+sealed_for : (o : Option Seat) (bytes : List ℕ) (sealed snapshots : ℕ) → SealsFew o bytes sealed → snapshots ≤ 1 → sealed + snapshots ≤ length bytes + 2
+sealed_for None bytes sealed snapshots few one = one_beside sealed snapshots (length bytes) few one
+sealed_for (Some (Smtp unserved d)) bytes sealed snapshots few one = half_beside sealed snapshots (length bytes) few one
+sealed_for (Some (Imap stream d)) bytes sealed snapshots few one = half_beside sealed snapshots (length bytes) few one
+sealed_for (Some (Http came)) bytes sealed snapshots few one = both_one sealed snapshots (length bytes) few one
+sealed_for (Some (Pop unserved d)) bytes sealed snapshots few one = all_beside sealed snapshots (length bytes) few one
 
-sealed_more : (a b n m k : ℕ) → a ≤ n + 2 → b ≤ m + 2 * k → a + b ≤ (n + m) + 2 * suc k
-sealed_more a b n m k p q = omega (arith, p, q)
+sealed_more : (a b c d e n m k : ℕ) → d ≡ a + b → e ≡ d + c → a + b ≤ n + 2 → c ≤ m + 2 * k → e ≤ (n + m) + 2 * suc k
+sealed_more a b c d e n m k here all p q = omega (arith, here, all, p, q)
 
 read_more : (a b c n m k : ℕ) → 2 * a ≤ n + 1 → 2 * b ≤ m + k → c ≡ a + b → 2 * c ≤ (n + m) + suc k
 read_more a b c n m k p q same = omega (arith, p, q, same)
@@ -190,8 +191,10 @@ together {D} (w ∷ more) s each =
     let here : List TextRead = read_in_step s w.step in
     let later : List TextRead = read_in_steps (behind s w.step) (steps_of more) in
     record {
-      records = sealed_more (sealed_by (hearer s.seats w.step.event.conn w.step.event.what) w) (sealed_beside_consoles (behind s w.step) more) (length (bytes_of w.step.event.what)) (octets_in (steps_of more)) (length more)
-          (sealed_for (hearer s.seats w.step.event.conn w.step.event.what) (bytes_of w.step.event.what) w first.records first.snapshot) rest.records;
+      records = sealed_more (length w.sealed) (length w.snapshot) (length (sealed_in more)) (length (w.sealed ++ w.snapshot)) (length (sealed_in (w ∷ more)))
+          (length (bytes_of w.step.event.what)) (octets_in (steps_of more)) (length more)
+          (length-append w.sealed w.snapshot) (length-append (w.sealed ++ w.snapshot) (sealed_in more))
+          (sealed_for (hearer s.seats w.step.event.conn w.step.event.what) (bytes_of w.step.event.what) (length w.sealed) (length w.snapshot) first.records first.snapshot) rest.records;
       reads = read_more (length here) (length later) (length (here ++ later)) (length (bytes_of w.step.event.what)) (octets_in (steps_of more)) (length more) first.reads.few rest.reads (length-append here later);
       each = all_both here later first.reads.each rest.each;
     }

@@ -4,6 +4,8 @@ pub mod Lines
 pub mod Commands
 pub mod Events
 pub mod Records
+pub mod Rewinding
+pub mod Requests
 pub mod Sealed
 pub mod Texts
 pub mod Wanting

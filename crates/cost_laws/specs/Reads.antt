@@ -1,4 +1,4 @@
--- Which texts an event of a mail program reads.
+-- Which texts an event of a mail program wants, as its session asks for them by the machine's definition. How often a disk is read no disk tells.
 use Rattle.std.specs.Prelude.{◌⊎◌, ℕ, ◌≤◌, List, [], ◌∷◌, ◌++◌, length, unwrap_or, Option, None, Some}
 use Rattle.std.specs.List.{AllByRecursion, sum_by}
 use Rattle.smtp_lines.specs.Line.{smtp_lines_of}
@@ -18,31 +18,31 @@ use Rattle.mail_loop.specs.State.{Seat, Smtp, Imap, Http, Pop, State, beside}
 use Rattle.mail_loop.specs.Turns.{turn_of}
 use Rattle.cost_laws.specs.Units.{EndIn}
 
--- the bodies whose texts are read for a unit, with what is kept then
+-- the bodies whose texts a unit wants, with what is kept then
 pub record TextRead : Type 0 where
   pub kept : Kept
   pub bodies : List Body
 
--- what is read for what a session gives of a unit: once, and nothing where it wants none
+-- what is wanted for what a session gives of a unit: once, or nothing
 abbrev pub read_for : Kept → Out → List TextRead
 read_for kept (Say said) = []
 read_for kept (Read bodies) = record { kept = kept; bodies = bodies } ∷ []
 read_for kept (Submit asked) = []
 read_for kept (Bye said) = []
 
--- what is read after a unit, while the connection is open
+-- what is wanted after a unit, while the connection is open
 abbrev pub goes_on : {D : Type 0} → Option D → (D → List TextRead) → List TextRead
 goes_on None more = []
 goes_on (Some d) more = more d
 
--- what is read for units, one after the other, each hindered or not
+-- what is wanted for units, one after the other, each hindered or not
 abbrev pub read_in : {D U : Type 0} → Session D U → ℕ → ℕ → List Hindrance → State → D → List U → List TextRead
 read_in session at conn hs s d [] = []
 read_in session at conn hs s d (u ∷ us) =
     let o = turn_of session at conn (first_hindrance hs) s d u in
     read_for s.kept (session.takes at s.kept (beside conn s.seats) d u).out ++ goes_on o.dialog (λ e. read_in session at conn (other_hindrances hs) o.state e us)
 
--- what is read for an event of a mail program
+-- what is wanted for an event of a mail program; of a console nothing is told here
 abbrev pub read_at : List Hindrance → ℕ → State → ℕ → Seat → List ℕ → List TextRead
 read_at hs at s conn (Smtp unserved d) bytes = read_in smtp_session at conn hs s d (smtp_lines_of (unserved ++ bytes))
 read_at hs at s conn (Imap stream d) bytes = read_in imap_session at conn hs s d ((heard stream bytes).said ++ NotYet ∷ [])
@@ -58,16 +58,16 @@ abbrev pub in_view : Option Selected → ℕ
 in_view None = 0
 in_view (Some selected) = length selected.view
 
--- So few texts are read, which have no more octets together than one command may ask for.
+-- So few texts are wanted, which have no more octets together than one command may ask for.
 pub record IsFewTexts (sizes : Body → Option ℕ) (most : ℕ) (bodies : List Body) : Type 0 where
   pub texts : length bodies ≤ most
   pub octets : octets_read sizes bodies ≤ 268435456
 
--- one text is read, or these have no more octets together than one command may ask for
+-- one text is wanted, or these have no more octets together than one command may ask for
 abbrev pub IsSmall : TextRead → Type 0
 IsSmall read = (length read.bodies ≤ 1) ⊎ (octets_read (size_in read.kept) read.bodies ≤ 268435456)
 
--- an event of these octets reads no more often than it may end units, and each time little
+-- an event of these octets wants texts no more often than it may end units, and each time few
 pub record ReadsFew (bytes : List ℕ) (reads : List TextRead) : Type 0 where
   pub few : EndIn (length reads) bytes
   pub each : AllByRecursion IsSmall reads

@@ -1,24 +1,29 @@
--- Two stores in use that agree on a user agree again behind the same mail, where it comes to the same of the user's mailboxes.
-use Rattle.std.proofs.Common.{◌≡◌, ℕ, ◌+◌, Bool, true, false, cond, filter, List, [], ◌∷◌, ◌++◌, refl, ap, sym, subst, ◌∙◌, true≢false}
+-- Two stores in use that agree on a user agree again behind the same mail, where it comes to the same of the user's mailboxes, and behind the same
+-- removal.
+use Rattle.std.proofs.Common.{◌≡◌, ℕ, ◌+◌, Bool, true, false, cond, filter, not, List, [], ◌∷◌, ◌++◌, refl, ap, sym, subst, ◌∙◌, true≢false}
 use Rattle.std.specs.Cmp.{first_so, second_so}
 use Rattle.std.specs.List.{list_all}
 use Rattle.std.specs.Ordering.{eq_by_cmp}
+use Rattle.std.specs.Prelude.{unwrap_or}
+use Rattle.undo_base.specs.declared.keys.Key.{Key}
 use Rattle.undo_base.specs.declared.keys.User.{User}
 use Rattle.verb_core.specs.declared.conf.House.{House}
 use Rattle.verb_core.specs.declared.item.Aim.{Aim}
 use Rattle.verb_core.specs.declared.item.Deed.{Deed}
-use Rattle.verb_core.specs.declared.item.Deed.TheVariants.{Deliver}
+use Rattle.verb_core.specs.declared.item.Act.TheVariants.{Give, Remove}
+use Rattle.verb_core.specs.declared.item.Deed.TheVariants.{Act as Acts, Deliver}
 use Rattle.verb_core.specs.declared.item.Item.{Item}
 use Rattle.verb_core.specs.declared.mailbox.Body.{Body}
 use Rattle.verb_core.specs.declared.mailbox.BoxId.{BoxId}
 use Rattle.verb_core.specs.declared.mailbox.Entry.{Entry}
 use Rattle.verb_core.specs.declared.mailbox.Mailbox.{Mailbox}
-use Rattle.verb_core.specs.Aims.{box_aimed, sought_by}
-use Rattle.verb_core.specs.Boxes.{box_cmp, change_row, rows_of, same_user}
+use Rattle.verb_core.specs.Aims.{box_aimed, sought}
+use Rattle.verb_core.specs.Boxes.{box_cmp, box_of, change_row, rows_of, same_user}
 use Rattle.verb_core.specs.Deeds.{is_notice}
-use Rattle.verb_core.specs.Items.{IsWellFormed, actor}
-use Rattle.verb_core.specs.Mailboxes.{no_flags, put, put_all}
+use Rattle.verb_core.specs.Items.{IsWellFormed, actor, text_in}
+use Rattle.verb_core.specs.Mailboxes.{is_among, no_flags, put, put_all, with_entries, without}
 use Rattle.verb_core.specs.Stamps.{stamps_after}
+use Rattle.verb_core.specs.Store.{MailStore}
 use Rattle.verb_core.specs.Step.{Boxes, message, new_mail, put_at, rearranged, step}
 use Rattle.verb_core.proofs.BoxLaws.{own-change_row, rows_of-change_row}
 use Rattle.verb_core.proofs.Validity.{both}
@@ -77,54 +82,82 @@ module _ (test : Body → Bool) where
   all_put mail each [] rs all = all
   all_put mail each (a ∷ aims) rs all = all_put mail each aims (change_row (box_aimed a) (put_all (mail a.index)) rs) (rows_more (box_aimed a) (mail a.index) rs all (each a.index))
 
+-- ---- a message that is removed
+
+-- the rows without it, where one is removed
+abbrev taken_out : Deed → Boxes → Boxes
+taken_out (Acts (Remove v mailbox key)) rs = change_row (box_of v mailbox) (with_entries (without (key ∷ []))) rs
+taken_out _ rs = rs
+
+module _ (test : Body → Bool) where
+  fewer : (es : List Entry) (p : Entry → Bool) → pass test es ≡ true → pass test (filter p es) ≡ true
+  fewer [] p all = refl
+  fewer (e ∷ es) p all =
+      elim (p e) as (λ b. pass test (cond b (e ∷ filter p es) (filter p es)) ≡ true) [
+        | true ↦ both (test e.body) (pass test (filter p es)) (first_so _ _ all) (fewer es p (second_so (test e.body) _ all))
+        | false ↦ fewer es p (second_so (test e.body) _ all)
+      ]
+
+  row_fewer : (keys : List Key) (m : Mailbox) (b : Bool) → pass test m.entries ≡ true → pass test (cond b (with_entries (without keys) m) m).entries ≡ true
+  row_fewer keys m true all = fewer m.entries (λ (e : Entry). not (is_among keys e.key)) all
+  row_fewer keys m false all = all
+
+  rows_fewer : (id : BoxId) (keys : List Key) (rs : Boxes) → all_bodies test rs ≡ true → all_bodies test (change_row id (with_entries (without keys)) rs) ≡ true
+  rows_fewer id keys [] all = refl
+  rows_fewer id keys (r ∷ rs) all =
+      both (pass test (cond (eq_by_cmp box_cmp id r.0) (with_entries (without keys) r.1) r.1).entries) (all_bodies test (change_row id (with_entries (without keys)) rs))
+      (row_fewer keys r.1 (eq_by_cmp box_cmp id r.0) (first_so _ _ all))
+      (rows_fewer id keys rs (second_so (pass test r.1.entries) _ all))
+
+  taken_fewer : (d : Deed) (rs : Boxes) → all_bodies test rs ≡ true → all_bodies test (taken_out d rs) ≡ true
+  taken_fewer (Acts (Remove v mailbox key)) rs all = rows_fewer (box_of v mailbox) (key ∷ []) rs all
+  taken_fewer _ rs all = all
+
 -- ---- a mail
 
+no_notice : (d : Deed) → is_mail d ≡ true → is_notice d ≡ false
+unfolding is_notice
+no_notice (Deliver from to text) is = refl
+no_notice (Acts (Give v mailbox text)) is = refl
+no_notice (Acts (Remove v mailbox key)) is = refl
+no_notice _ is = absurd (true≢false (sym is))
+
 module _ (i : Item) where
-  mail_is : (v : User) (boxes : Boxes) (index : ℕ) (d : Deed) → is_mail d ≡ true → new_mail v i boxes index d ≡ message i index no_flags i.at ∷ []
-  mail_is v boxes index (Deliver from to text) is = refl
-  mail_is v boxes index _ is = absurd (true≢false (sym is))
-
-  still_there : (v : User) (boxes : Boxes) (d : Deed) → is_mail d ≡ true → rearranged v d boxes ≡ boxes
-  still_there v boxes (Deliver from to text) is = refl
-  still_there v boxes _ is = absurd (true≢false (sym is))
-
-  no_notice : (d : Deed) → is_mail d ≡ true → is_notice d ≡ false
-  unfolding is_notice
-  no_notice (Deliver from to text) is = refl
-  no_notice _ is = absurd (true≢false (sym is))
-
   abbrev brought : ℕ → List Entry
   brought index = message i index no_flags i.at ∷ []
 
-  same_put : (mail : ℕ → List Entry) → ((n : ℕ) → mail n ≡ brought n) → (aims : List Aim) (rs : Boxes) → put_at mail aims rs ≡ put_at brought aims rs
-  same_put mail same [] rs = refl
-  same_put mail same (a ∷ aims) rs =
-      same_put mail same aims (change_row (box_aimed a) (put_all (mail a.index)) rs) ∙ ap (λ (es : List Entry). put_at brought aims (change_row (box_aimed a) (put_all es) rs)) (same a.index)
+  -- where a deed's new mail goes
+  abbrev goes_to : MailStore → Deed → List Aim
+  goes_to s d = (sought s (unwrap_or (text_in d) []) i.by d).aims
+
+  -- the user's rows behind a deed
+  behind_deed : (u : User) (s : MailStore) (d : Deed) → is_mail d ≡ true
+      → rows_of u (put_at (λ index. new_mail (actor i.by d) i s.boxes index d) (goes_to s d) (rearranged (actor i.by d) d s.boxes)) ≡ put_at brought (own_aims u brought (goes_to s d)) (taken_out d (rows_of u s.boxes))
+  behind_deed u s (Deliver from to text) is = own_put u brought (goes_to s (Deliver from to text)) s.boxes
+  behind_deed u s (Acts (Give v mailbox text)) is = own_put u brought (goes_to s (Acts (Give v mailbox text))) s.boxes
+  behind_deed u s (Acts (Remove v mailbox key)) is = own-change_row u (box_of v mailbox) (with_entries (without (key ∷ []))) s.boxes
+  behind_deed u s _ is = absurd (true≢false (sym is))
 
   -- the user's rows behind it
-  rows_mailed : (u : User) (kept : Kept) → is_mail i.deed ≡ true → rows_of u (step kept.store i).0.boxes ≡ put_at brought (aims_of u kept i) (rows_of u kept.store.boxes)
-  rows_mailed u kept is =
-      let who : User = actor i.by i.deed in
-      let aims : List Aim = (sought_by kept.store i).aims in
-      ap (λ (rs : Boxes). rows_of u (put_at (λ index. new_mail who i kept.store.boxes index i.deed) aims rs)) (still_there who kept.store.boxes i.deed is)
-      ∙ ap (rows_of u) (same_put (λ index. new_mail who i kept.store.boxes index i.deed) (λ n. mail_is who kept.store.boxes n i.deed is) aims kept.store.boxes)
-      ∙ own_put u brought aims kept.store.boxes
+  rows_mailed : (u : User) (kept : Kept) → is_mail i.deed ≡ true → rows_of u (step kept.store i).0.boxes ≡ put_at brought (aims_of u kept i) (taken_out i.deed (rows_of u kept.store.boxes))
+  rows_mailed u kept is = behind_deed u kept.store i.deed is
 
 module _ (h : House) (u : User) (k l : Kept) (a : Agree h u k l) (i : Item) (one : CanFollow h k i) (other : CanFollow h l i) (is : is_mail i.deed ≡ true) (same : aims_of u k i ≡ aims_of u l i) where
   boxes_mailed : rows_of u (step k.store i).0.boxes ≡ rows_of u (step l.store i).0.boxes
-  boxes_mailed = rows_mailed i u k is ∙ (λ j. put_at (brought i) (same j) (a.boxes j)) ∙ sym (rows_mailed i u l is)
+  boxes_mailed = rows_mailed i u k is ∙ (λ j. put_at (brought i) (same j) (taken_out i.deed (a.boxes j))) ∙ sym (rows_mailed i u l is)
 
   abbrev test : Body → Bool
   test body = is_alike (performed k i) (performed l i) body
 
   new_alike : (n : ℕ) → pass test (brought i n) ≡ true
-  new_alike n = both (test (body_of i)) true (alike_now k l i a.one.base a.other.base a.one.below a.other.below (no_notice i i.deed is) one.number a.next (body_of i) refl) refl
+  new_alike n = both (test (body_of i)) true (alike_now k l i a.one.base a.other.base a.one.below a.other.below (no_notice i.deed is) one.number a.next (body_of i) refl) refl
 
   texts_mailed : all_bodies test (rows_of u (step k.store i).0.boxes) ≡ true
   texts_mailed =
       subst (λ (rs : Boxes). all_bodies test rs ≡ true) (sym (rows_mailed i u k is))
-      (all_put test (brought i) new_alike (aims_of u k i) (rows_of u k.store.boxes)
-      (bodies_weaker (is_alike k l) test (rows_of u k.store.boxes) (alike_after k l i a.one.base a.other.base a.one.below a.other.below (no_notice i i.deed is) one.number a.next) a.texts))
+      (all_put test (brought i) new_alike (aims_of u k i) (taken_out i.deed (rows_of u k.store.boxes))
+      (taken_fewer test i.deed (rows_of u k.store.boxes)
+      (bodies_weaker (is_alike k l) test (rows_of u k.store.boxes) (alike_after k l i a.one.base a.other.base a.one.below a.other.below (no_notice i.deed is) one.number a.next) a.texts)))
 
   pub agree_mailed : Agree h u (performed k i) (performed l i)
   agree_mailed = record {

@@ -7,7 +7,9 @@ use Rattle.undo_outside.specs.declared.event.What.{What}
 use Rattle.undo_outside.specs.declared.event.What.TheVariants.{Bytes, Joined}
 use Rattle.verb_core.specs.declared.conf.Conf.{Conf}
 use Rattle.verb_core.specs.declared.conf.House.{House}
-use Rattle.verb_core.specs.declared.item.Deed.TheVariants.{Append, Deliver}
+use Rattle.verb_core.specs.declared.item.Act.{Act}
+use Rattle.verb_core.specs.declared.item.Act.TheVariants.{Give, Remove}
+use Rattle.verb_core.specs.declared.item.Deed.TheVariants.{Act as Acts, Append, Deliver}
 use Rattle.verb_core.specs.declared.item.Item.{Item}
 use Rattle.verb_core.specs.declared.item.Shown.TheVariants.{Nothing, Put}
 use Rattle.verb_core.specs.Aims.{sought_by}
@@ -128,6 +130,25 @@ mail_follows i e = record { formed = record { by = refl; users = refl; few = ome
 
 mail_agree : Agree house ann (performed (performed start one) mail) (performed (performed start other) mail)
 mail_agree = agree_same house ann (performed start one) (performed start other) mail mail two_agree (mail_follows one refl) (mail_follows other refl) (refl, refl, refl)
+
+-- the operator gives Ann a message in both, or removes hers from both
+abbrev of_operator : Act → Item
+of_operator act = record { number = 4; at = 1105092000; by = None; rev = 0; deed = Acts act; shown = Nothing }
+
+given_agree : Agree house ann (performed (all_performed start (one ∷ hers ∷ [])) (of_operator (Give ann inbox (codes "lost")))) (performed (all_performed start (other ∷ hers ∷ [])) (of_operator (Give ann inbox (codes "lost"))))
+given_agree =
+    agree_same house ann (all_performed start (one ∷ hers ∷ [])) (all_performed start (other ∷ hers ∷ [])) (of_operator (Give ann inbox (codes "lost"))) (of_operator (Give ann inbox (codes "lost"))) still_agree
+    (record { formed = record { by = refl; users = refl; few = omega arith; form = refl }; number = refl; left = omega arith })
+    (record { formed = record { by = refl; users = refl; few = omega arith; form = refl }; number = refl; left = omega arith }) (refl, refl, refl)
+
+abbrev removes : Act
+removes = Remove ann inbox (record { item = 3; index = 0 })
+
+removed_agree : Agree house ann (performed (all_performed start (one ∷ hers ∷ [])) (of_operator removes)) (performed (all_performed start (other ∷ hers ∷ [])) (of_operator removes))
+removed_agree =
+    agree_same house ann (all_performed start (one ∷ hers ∷ [])) (all_performed start (other ∷ hers ∷ [])) (of_operator removes) (of_operator removes) still_agree
+    (record { formed = record { by = refl; users = refl; few = omega arith; form = refl }; number = refl; left = omega arith })
+    (record { formed = record { by = refl; users = refl; few = omega arith; form = refl }; number = refl; left = omega arith }) (refl, refl, refl)
 
 -- ---- a connection
 

@@ -5,7 +5,8 @@ use Rattle.undo_base.specs.declared.keys.User.{User}
 use Rattle.verb_core.specs.declared.conf.House.{House}
 use Rattle.verb_core.specs.declared.item.Aim.{Aim}
 use Rattle.verb_core.specs.declared.item.Deed.{Deed}
-use Rattle.verb_core.specs.declared.item.Deed.TheVariants.{Deliver}
+use Rattle.verb_core.specs.declared.item.Act.TheVariants.{Give, Remove}
+use Rattle.verb_core.specs.declared.item.Deed.TheVariants.{Act as Acts, Deliver}
 use Rattle.verb_core.specs.declared.item.Item.{Item}
 use Rattle.verb_core.specs.declared.mailbox.BoxId.{BoxId}
 use Rattle.verb_core.specs.Aims.{sought_by}
@@ -29,21 +30,24 @@ pub record CanFollow (house : House) (kept : Kept) (i : Item) : Type 0 where
 abbrev pub IsOwnItem : User → Item → Item → Type 0
 IsOwnItem u i j = (i ≡ j) × (is_own i.deed ≡ true) × (actor i.by i.deed ≡ u)
 
--- a mail that came by SMTP
+-- others bring mail or take some away: a mail came by SMTP, or the operator gave one or removed a message
 abbrev pub is_mail : Deed → Bool
 is_mail (Deliver from to text) = true
+is_mail (Acts (Give user mailbox text)) = true
+is_mail (Acts (Remove user mailbox key)) = true
 is_mail _ = false
 
 -- to which of a user's mailboxes an item brings mail
 abbrev pub aims_of : User → Kept → Item → List Aim
 aims_of u kept i = filter (λ (a : Aim). same_user u a.user) (sought_by (store_of kept) i).aims
 
--- the same mail in both, which comes to the same of the user's mailboxes: so aliases and filters mean the same for the user
+-- The same mail in both, which comes to the same of the user's mailboxes: so aliases and filters mean the same for the user. Or it is a message that the
+-- operator removes in both.
 abbrev pub IsSameMail : User → Kept → Kept → Item → Item → Type 0
 IsSameMail u k l i j = (i ≡ j) × (is_mail i.deed ≡ true) × (aims_of u k i ≡ aims_of u l i)
 
--- Two runs of items are alike for a user. Each item of the user's own stands in both, and each mail that comes to the user. Beside each item that
--- touches none of the user's mailboxes stands another such.
+-- Two runs of items are alike for a user. Each item of the user's own stands in both, and so does each mail that comes to the user or that the operator
+-- removes there. Beside each item that touches none of the user's mailboxes stands another such.
 abbrev pub AreAlike : House → User → Kept → Kept → List Item → List Item → Type 0
 AreAlike house u k l [] [] = Unit {0}
 AreAlike house u k l [] (j ∷ js) = ⊥

@@ -96,7 +96,8 @@ pub record Perform (house : House) (u : User) (steps : List Step) (s : State) : 
 abbrev pub IsAway : User → Kept → Item → Type 0
 IsAway u kept i = (is_own i.deed ≡ true) ⊎ Spares u (store_of kept) i
 
--- Items of others match for a user: there are as many in both runs, each mail that comes to the user stands in both, and all others are away from the user.
+-- Items of others match for a user: there are as many in both runs, each mail that comes to the user and each act on the user's mail stands in both, and
+-- all others are away from the user.
 abbrev pub AreMatched : User → Kept → Kept → List Item → List Item → Type 0
 AreMatched u k l [] [] = Unit {0}
 AreMatched u k l [] (j ∷ js) = ⊥

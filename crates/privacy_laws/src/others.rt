@@ -25,7 +25,8 @@ pub fn users_agree_again()
 
 /// Whatever items touch none of a user's mailboxes, two stores that agree on that user agree again behind one of each. So runs in which the user's own
 /// items are the same, and as many others stand between them, lead to stores that agree on that user. So does the same mail in both, where it comes to
-/// the same of the user's mailboxes. What an item that touches none of them takes away closes no connection on which the user reads by IMAP.
+/// the same of the user's mailboxes, be it by SMTP or a gift of the operator's, and the same message that the operator removes. What an item that touches
+/// none of them takes away closes no connection on which the user reads by IMAP.
 pub fn others_leave_agreement()
     ensures one { (house : House) (u : User) (k l : Kept) (i j : Item) → Agree house u k l → CanFollow house k i → CanFollow house l j → Spares u (store_of k) i → Spares u (store_of l) j →
         Agree house u (performed k i) (performed l j) }

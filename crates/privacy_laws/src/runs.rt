@@ -11,7 +11,8 @@ ghost use Rattle.privacy_laws.specs.Runs.{AgreeFor, AreAlikeFor, Part, first_run
 
 /// Two runs begin in states that agree for a user, and are alike for that user: the same comes over the user's connections, and what others do between
 /// leaves the agreement. Then the link does the same for each of these connections: it sends the same strings in the same order, misses the same and
-/// closes it at the same place. And the states agree for the user again. So it is of what `serve_events` did for two such lists of events.
+/// closes it at the same place. And the states agree for the user again. So it is of what `serve_events` did for two such lists of events, where it
+/// ended within one with what was left undone of it.
 pub fn runs_tell_of_their_own_mail()
     ensures told { (house : House) (u : User) (own : ℕ → Bool) (s t : State) (parts : List Part) (conn : ℕ) → AgreeFor house u own s t → AreAlikeFor house u own s t parts → own conn ≡ true →
         notes_for conn (run (first_run parts) s).notes ≡ notes_for conn (run (second_run parts) t).notes }
