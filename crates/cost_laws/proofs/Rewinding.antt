@@ -163,10 +163,10 @@ item_leads kept item = record {
     taken = at_most kept.marks.taken;
     deep = at_most (one_if kept.deep);
     way = inl (record {
-        reports = refl;
-        undone = refl;
-        long = longer (length kept.timeline) kept.marks.taken (one_if kept.deep) (length (kept.timeline ++ item ∷ [])) (length-append kept.timeline (item ∷ []));
-      });
+      reports = refl;
+      undone = refl;
+      long = longer (length kept.timeline) kept.marks.taken (one_if kept.deep) (length (kept.timeline ++ item ∷ [])) (length-append kept.timeline (item ∷ []));
+    });
   };
   kind = inl (record { reports = refl; drawn = at_most (kept.next + 1) });
 }
@@ -366,17 +366,17 @@ up_more a b c p q = omega (arith, p, q)
 ways : (n : ℕ) (a b c : Kept) → a.next ≤ b.next → Stays 1 a b ⊎ Turns a b → Stays n b c ⊎ Turns b c → Stays (suc n) a c ⊎ Turns a c
 ways n a b c le (inl p) (inl q) = inl (record { reports = q.reports ∙ p.reports; undone = q.undone ∙ p.undone; long = then_long (size a) (size b) (size c) n p.long q.long })
 ways n a b c le (inl p) (inr q) = inr (record {
-    reports = same_up (length a.reports) (length b.reports) (length c.reports) (ap (λ (r : Reports). length r) p.reports) q.reports;
-    undone = weaker a.next b.next le c.undone q.undone;
-  })
+  reports = same_up (length a.reports) (length b.reports) (length c.reports) (ap (λ (r : Reports). length r) p.reports) q.reports;
+  undone = weaker a.next b.next le c.undone q.undone;
+})
 ways n a b c le (inr p) (inl q) = inr (record {
-    reports = up_same (length a.reports) (length b.reports) (length c.reports) p.reports (ap (λ (r : Reports). length r) q.reports);
-    undone = subst (λ (o : Option UndoneBehind). IfSome o (λ (u : UndoneBehind). a.next ≤ u.cycle)) (sym q.undone) p.undone;
-  })
+  reports = up_same (length a.reports) (length b.reports) (length c.reports) p.reports (ap (λ (r : Reports). length r) q.reports);
+  undone = subst (λ (o : Option UndoneBehind). IfSome o (λ (u : UndoneBehind). a.next ≤ u.cycle)) (sym q.undone) p.undone;
+})
 ways n a b c le (inr p) (inr q) = inr (record {
-    reports = up_more (length a.reports) (length b.reports) (length c.reports) p.reports q.reports;
-    undone = weaker a.next b.next le c.undone q.undone;
-  })
+  reports = up_more (length a.reports) (length b.reports) (length c.reports) p.reports q.reports;
+  undone = weaker a.next b.next le c.undone q.undone;
+})
 
 both : (n : ℕ) (a b c : Kept) → Further 1 a b → Further n b c → Further (suc n) a c
 both n a b c p q = record {

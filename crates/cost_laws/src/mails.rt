@@ -9,7 +9,11 @@ use undo_outside::Disk;
 use verb_core::{Ask, Item, SubmitFault};
 
 /// A new desk is asked to deliver the mail of the example. Where it answers Ok, what the example asks of it holds (`Delivers`).
-pub fn deliver_mail<D: Disk>(alloc: Global, desk: &mut Desk<D>, mail: Ask) -> Result<Item, SubmitFault>
+pub fn deliver_mail<D: Disk>(
+    alloc: Global,
+    desk: &mut Desk<D>,
+    mail: Ask,
+) -> Result<Item, SubmitFault>
     requires new { desk.old.kept ≡ new_desk a_house a_conf }
     requires mail { mail ≡ a_mail }
     ensures { IfOk result (λ item. Delivers D.told desk.old desk.new item) }
