@@ -58,8 +58,8 @@ a_letter = said (codes "HELO c") ++ said (codes "MAIL FROM:<a@b>") ++ said (code
 abbrev pub a_mail : Ask
 a_mail = Deliver (codes "a@b") (codes "ann" ∷ []) (body_of (codes "h") 0 (codes "c") (codes "a@b") (said (codes "Hi")))
 
--- A new desk of that house delivers the mail, as this item, and seals its record. That is what `submit` of time_desk says of each call of it that
--- answers Ok: its clauses `ok`, `sealed`, `reads` and `finds_memory`.
+-- A new desk of that house delivers the mail, as this item, and seals its record: so it does by a call of `submit` of time_desk that answers Ok
+-- (`deliver_mail`).
 pub record Delivers {D : Type 0} (told : D → DiskTold) (old new : Lasting D) (item : Item) : Type 0 where
   pub is_open : old.closed ≡ false
   pub is_new : old.kept ≡ new_desk a_house a_conf
