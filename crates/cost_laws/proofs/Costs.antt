@@ -14,7 +14,7 @@ use Rattle.console_head.specs.Request.{Stage}
 use Rattle.store_kept.specs.Kept.{Kept}
 use Rattle.desk_journal.specs.Lasting.{Lasting}
 use Rattle.desk_journal.specs.Stored.{HoldsTexts}
-use Rattle.mail_loop.specs.Acknowledged.{Course, Stretch, Went, behind, sealed_in, steps_of, turned}
+use Rattle.mail_loop.specs.Acknowledged.{Course, Stretch, Went, behind, sealed_in, steps_of}
 use Rattle.mail_loop.specs.Hindrance.{Hindrance}
 use Rattle.mail_loop.specs.Machine.{Hindrances, admitted, answers, happens, hears_at, joins, seat_at}
 use Rattle.mail_loop.specs.Roles.{row_of}

@@ -1,5 +1,5 @@
 -- How many records a console's request seals.
-use Rattle.std.proofs.Common.{◌≡◌, ℕ, ◌+◌, ◌≤◌, arith, inl, Bool, true, false, true≢false, List, [], ◌∷◌, length, min, nat_lt, if◌then◌else◌, Option, None, Some, Result, Ok, Err, refl, ap, sym, subst, ◌∙◌}
+use Rattle.std.proofs.Common.{◌≡◌, ℕ, ◌+◌, ◌≤◌, arith, inl, Bool, true, false, List, length, min, nat_lt, if◌then◌else◌, Option, None, Some, Result, Ok, Err, refl, ap, sym, subst}
 use Rattle.undo_outside.specs.Disk.{DiskTold}
 use Rattle.undo_outside.specs.declared.event.What.{What}
 use Rattle.undo_outside.specs.declared.event.What.TheVariants.{Bytes}
@@ -13,7 +13,7 @@ use Rattle.verb_bytes.specs.declared.journal.JournalRecord.TheVariants.{Cycle, O
 use Rattle.withdraw.specs.declared.undone.UndoneBehind.{UndoneBehind}
 use Rattle.store_kept.specs.Kept.{Kept, performed, report_of, snapshotted, undone_of, upgraded}
 use Rattle.repair_desk.specs.Repairs.{position}
-use Rattle.cycle_rules.specs.Asking.{Due, Repeats, NoPoint, NoNumbers, Rewinds, IsRewinds, after_cycle, cycle_due, due_anew, due_at, due_by}
+use Rattle.cycle_rules.specs.Asking.{Due, Repeats, NoPoint, NoNumbers, Rewinds, after_cycle, cycle_due, due_anew, due_at, due_by}
 use Rattle.cycle_rules.specs.Cycles.{Cycled, cycled_at, leaves_numbers}
 use Rattle.cycle_rules.specs.Repairing.{leaves_numbers_for}
 use Rattle.cycle_rules.specs.Withdrawals.{after_withdrawal, withdraw_due, withdraw_due_at, withdrawn_at}
@@ -32,13 +32,13 @@ use Rattle.console_session.specs.declared.reply.After.TheVariants.{Closes}
 use Rattle.console_session.specs.Answers.{Answer, answer, body_found, is_text_recorded, pointless, refused, uncycled}
 use Rattle.console_session.specs.ConsoleTurn.{ConsoleTurn, asked_of, done, failed, kept_as_it_is, numberless, reported, rewound, routed, tells, upgrade_done}
 use Rattle.console_session.specs.Hindrance as console
-use Rattle.console_session.specs.Hindrance.{acted_under, cycled_under, found_under, gone_back_under, read_under, rewound_under, routed_under, sealed_under, told_under, tried_under, upgraded_under, where_read, withdrawn_under}
+use Rattle.console_session.specs.Hindrance.{found_under, gone_back_under, read_under, rewound_under, routed_under, sealed_under, told_under, tried_under, where_read}
 use Rattle.mail_loop.specs.Acknowledged.{Stretch, Went, turned}
 use Rattle.mail_loop.specs.ConsoleTurn.{console_turn, of_console}
 use Rattle.mail_loop.specs.Hindrance.{Hindrance, first_hindrance}
 use Rattle.mail_loop.specs.Machine.{Answered, answers, heard_if_fed, hears_at, seat_at}
 use Rattle.mail_loop.specs.State.{Seat, Http, State}
-use Rattle.mail_loop.specs.Turns.{Heard, hears_console}
+use Rattle.mail_loop.specs.Turns.{hears_console}
 use Rattle.cost_laws.proofs.Records.{one_if, progress, records_further}
 use Rattle.cost_laws.proofs.Rewinding.{AtMostOne, cycle_alone, withdrawal_alone}
 

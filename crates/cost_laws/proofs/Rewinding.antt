@@ -18,13 +18,13 @@ use Rattle.verb_bytes.specs.declared.journal.JournalRecord.TheVariants.{Format, 
 use Rattle.withdraw.specs.declared.undone.UndoneBehind.{UndoneBehind}
 use Rattle.store_kept.specs.Kept.{Kept, Reports, key_cmp, passed, performed, report_of, snapshotted, undone_of, upgraded, with_report}
 use Rattle.repair_desk.specs.Repairs.{numbers_of, position}
-use Rattle.cycle_rules.specs.Asking.{Due, Repeats, NoPoint, NoNumbers, Rewinds, after_cycle, due_at, due_by}
+use Rattle.cycle_rules.specs.Asking.{Due, NoNumbers, Rewinds, after_cycle, due_at, due_by}
 use Rattle.cycle_rules.specs.Cycles.{Cycled, cycled_at, leaves_numbers, repair_of}
 use Rattle.cycle_rules.specs.Judging.{shown_after}
 use Rattle.cycle_rules.specs.Repairing.{compared_in, front_in, kept_in, leaves_numbers_for, told_in}
 use Rattle.cycle_rules.specs.Withdrawals.{after_withdrawal, unedit_of, withdraw_due_at, withdrawn_at}
 use Rattle.desk_journal.specs.Formed.{is_spelled}
-use Rattle.desk_journal.specs.Records.{after_due, after_item, after_kept, after_record, after_records, after_upgrade, can_follow, can_keep, can_rewind, is_true}
+use Rattle.desk_journal.specs.Records.{after_due, after_item, after_kept, after_record, after_records, can_follow, can_keep, can_rewind, is_true}
 use Rattle.cost_laws.proofs.Records.{one_if, progress}
 
 -- ---- the notices that reports tell of

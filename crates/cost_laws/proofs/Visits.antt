@@ -1,6 +1,6 @@
 -- Runs in which nothing is sealed, and in which a mail is.
 use Rattle.std.specs.Prelude.{if◌then◌else◌}
-use Rattle.std.proofs.Common.{◌≡◌, ℕ, ◌+◌, ◌≤◌, arith, Bool, true, false, true≢false, ◌||◌, List, [], ◌∷◌, ◌++◌, None, refl, ap, sym, subst, ◌∙◌}
+use Rattle.std.proofs.Common.{◌≡◌, ℕ, ◌+◌, arith, Bool, true, false, true≢false, ◌||◌, List, [], ◌∷◌, ◌++◌, None, refl, ap, sym, subst, ◌∙◌}
 use Rattle.std.specs.Prelude.{◌↔◌, IfOk, IsErrOf, IsTrue, OnOk, Result, Ok, Err, is_ok, codes}
 use Rattle.undo_base.specs.LineEnd.{crlf}
 use Rattle.smtp_lines.specs.Command.{spoken}
@@ -20,10 +20,10 @@ use Rattle.mail_desk.specs.Desk.{Submitted, submitted}
 use Rattle.desk_journal.specs.Lasting.{Lasting, IsUnwritten}
 use Rattle.desk_journal.specs.Reading.{Counted, HaveRead, ReadsWell, none_read}
 use Rattle.desk_journal.specs.Sealing.{Seals}
-use Rattle.mail_loop.specs.Acknowledged.{Course, Stretch, Went, behind, turned}
+use Rattle.mail_loop.specs.Acknowledged.{Course, Went, behind, turned}
 use Rattle.mail_loop.specs.Did.{is_due_on}
-use Rattle.mail_loop.specs.Machine.{Answered, IsPassed, unwritten_by}
-use Rattle.mail_loop.specs.Serving.{Step, at_first}
+use Rattle.mail_loop.specs.Machine.{IsPassed, unwritten_by}
+use Rattle.mail_loop.specs.Serving.{at_first}
 use Rattle.mail_loop.specs.State.{State}
 use Rattle.mail_loop.specs.TurnCounts.{TurnCounts, none_counted}
 use Rattle.cost_laws.specs.Visits.{Delivers, a_conf, a_delivery, a_house, a_letter, a_mail, a_visit, at_rest, sends_mail, unhindered}

@@ -1,5 +1,5 @@
 -- Two courses of serving, as examples: nothing is sealed in one, and a mail in the other.
-use Rattle.std.specs.Prelude.{◌≡◌, ℕ, false, List, [], ◌∷◌, ◌++◌, codes, None, Some, Ok}
+use Rattle.std.specs.Prelude.{◌≡◌, ℕ, false, List, [], ◌∷◌, ◌++◌, codes, None, Ok}
 use Rattle.undo_base.specs.LineEnd.{crlf}
 use Rattle.undo_outside.specs.Disk.{DiskTold}
 use Rattle.undo_outside.specs.declared.event.Role.TheVariants as role
