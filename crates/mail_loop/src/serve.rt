@@ -215,7 +215,8 @@ fn hear_at<R: Threads + Sync, D: Disk + Drop, G: Gate>(
         }
     };
     if turned.closes {
-        connections.remove(&conn);
+        let gone = connections.remove(&conn);
+        drop(gone);
     }
     let stops = turned.stops;
     let letters = letters_of(room, connections, conn, turned);
