@@ -38,7 +38,7 @@ letters_of-letters-requires-clause-room g c =
     let turned = c.hear-turned.result in
     let lent = (c.get_mut.follows.lender connection).entries in
     let after : c.if-turned.connections.entries ≡ after_reply (not turned.closes) c.args.conn lent = elim c.if-turned.branch [
-      | then-turned w ↦ ap (λ m. m.entries) w.connections-is ∙ w.remove.ensures.entries ∙ sym (ap (λ (b : Bool). after_reply (not b) c.args.conn lent) w.if-turned.true)
+      | then-turned w ↦ ap (λ m. m.entries) w.connections-is ∙ w.remove-gone.ensures.entries ∙ sym (ap (λ (b : Bool). after_reply (not b) c.args.conn lent) w.if-turned.true)
       | else-turned w ↦ ap (λ m. m.entries) w.connections-is ∙ sym (ap (λ (b : Bool). after_reply (not b) c.args.conn lent) w.if-turned.false)
     ] in
     let left = ap (λ (l : Seats). length l) after in
@@ -52,7 +52,7 @@ returns-clause-answers g c =
     let turned = c.hear-turned.result in
     let lent = (c.get_mut.follows.lender connection).entries in
     let after : c.if-turned.connections.entries ≡ after_reply (not turned.closes) c.args.conn lent = elim c.if-turned.branch [
-      | then-turned w ↦ ap (λ m. m.entries) w.connections-is ∙ w.remove.ensures.entries ∙ sym (ap (λ (b : Bool). after_reply (not b) c.args.conn lent) w.if-turned.true)
+      | then-turned w ↦ ap (λ m. m.entries) w.connections-is ∙ w.remove-gone.ensures.entries ∙ sym (ap (λ (b : Bool). after_reply (not b) c.args.conn lent) w.if-turned.true)
       | else-turned w ↦ ap (λ m. m.entries) w.connections-is ∙ sym (ap (λ (b : Bool). after_reply (not b) c.args.conn lent) w.if-turned.false)
     ] in
     let answer : Answer = record { letters = c.letters_of-letters.result; stops = turned.stops } in
@@ -70,7 +70,7 @@ returns-clause-home g c =
     let es = c.args.connections.now.entries in
     let lent = (c.get_mut.follows.lender connection).entries in
     let after : c.if-turned.connections.entries ≡ after_reply (not turned.closes) c.args.conn lent = elim c.if-turned.branch [
-      | then-turned w ↦ ap (λ m. m.entries) w.connections-is ∙ w.remove.ensures.entries ∙ sym (ap (λ (b : Bool). after_reply (not b) c.args.conn lent) w.if-turned.true)
+      | then-turned w ↦ ap (λ m. m.entries) w.connections-is ∙ w.remove-gone.ensures.entries ∙ sym (ap (λ (b : Bool). after_reply (not b) c.args.conn lent) w.if-turned.true)
       | else-turned w ↦ ap (λ m. m.entries) w.connections-is ∙ sym (ap (λ (b : Bool). after_reply (not b) c.args.conn lent) w.if-turned.false)
     ] in
     let held = subst (λ (h : House). AreHome h es) (sym c.hear-turned.ensures.house) c.requires.home in
