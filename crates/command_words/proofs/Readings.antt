@@ -1,16 +1,16 @@
 -- What is a command, `clap` takes.
-use Rattle.std.proofs.Common.{◌≡◌, ◌≤◌, ℕ, List, [], ◌∷◌, length, Bool, true, false, cond, ◌&&◌, ◌==◌, nat_le, arith, refl, codes, bytes_eq, Option, Some, None, is_some, option_map, Result, Ok, Err, sym, ap, subst, ◌∙◌}
+use Rattle.std.proofs.Common.{◌≡◌, ℕ, List, [], ◌∷◌, Bool, true, false, cond, ◌==◌, refl, codes, bytes_eq, Option, Some, None, is_some, option_map, Result, Ok, Err, sym, ap, subst, ◌∙◌}
 use Rattle.std.specs.List.{list_all}
-use Rattle.std.proofs.lemmas.Bool.{false≢true, true≢false, not-true, and_parts, leb-true}
+use Rattle.std.proofs.lemmas.Bool.{false≢true, true≢false, not-true, and_parts}
 use Rattle.std.proofs.lemmas.Slice.Eq.{bytes_eq-Decides}
 use Rattle.clap.specs.Words.{Text, takes}
 use Rattle.command_words.specs.declared.commands.Command.{Command}
-use Rattle.command_words.specs.declared.commands.Command.TheVariants.{Init, Serve, Script, Play, Grow, Check, Cut, Audit}
+use Rattle.command_words.specs.declared.commands.Command.TheVariants.{Init, Script, Play, Grow, Check, Cut, Audit}
 use Rattle.command_words.specs.declared.commands.WordsRefused.{WordsRefused}
 use Rattle.command_words.specs.declared.commands.WordsRefused.TheVariants.{NoMemory}
 use Rattle.command_words.specs.Numbers.{point_of, port_of, rounds_of}
 use Rattle.command_words.specs.Program.{program}
-use Rattle.command_words.specs.Usage.{is_word, alone, with_one, with_two, are_ports, with_ports, by_number, command_of}
+use Rattle.command_words.specs.Usage.{is_word, alone, with_one, with_two, at_ports, with_ports, some_port, by_number, command_of}
 use Rattle.command_words.proofs.Takes.{IsWord, takes-play, takes-init, takes-script, takes-check, takes-grow, takes-cut, takes-audit, takes-serve, takes-serve_pop}
 
 abbrev Takes : List Text → Type 0
@@ -65,17 +65,10 @@ takes_two name a b c h i e =
     (λ t. subst (λ n. Takes (n ∷ a ∷ b ∷ [])) (named name (codes "cut") t) (takes-cut a b h i))
     (no_command _ c) e
 
--- how many ports there are
-pub number_of_ports : (ports : List (List ℕ)) → are_ports ports ≡ true → (3 ≤ length ports) × (length ports ≤ 4)
-number_of_ports ports good =
-    let (few, all) = and_parts (nat_le 3 (length ports) && nat_le (length ports) 4) (list_all (λ word. is_some (port_of word)) ports) good in
-    let (low, high) = and_parts (nat_le 3 (length ports)) (nat_le (length ports) 4) few in
-    (leb-true 3 (length ports) low, leb-true (length ports) 4 high)
-
-takes_ports : (name : List ℕ) (ports behind : List Text) (c : Command) → (are_ports ports ≡ true → Takes (codes "serve" ∷ behind)) → with_ports name ports ≡ Some c → Takes (name ∷ behind)
-takes_ports name ports behind c takes e =
-    one_of (Takes (name ∷ behind)) (bytes_eq name (codes "serve") && are_ports ports) (Some Serve) None c
-    (λ t. let (is, good) = and_parts (bytes_eq name (codes "serve")) (are_ports ports) t in subst (λ n. Takes (n ∷ behind)) (named name (codes "serve") is) (takes good))
+takes_ports : (name smtp imap http : List ℕ) (behind : List Text) (pop : Option (Option ℕ)) (c : Command) → Takes (codes "serve" ∷ behind) → with_ports name smtp imap http pop ≡ Some c → Takes (name ∷ behind)
+takes_ports name smtp imap http behind pop c takes e =
+    one_of (Takes (name ∷ behind)) (bytes_eq name (codes "serve")) (at_ports (port_of smtp) (port_of imap) (port_of http) pop) None c
+    (λ t. subst (λ n. Takes (n ∷ behind)) (named name (codes "serve") t) takes)
     (no_command _ c) e
 
 takes_words : (words : List (List ℕ)) (c : Command) → list_all is_word words ≡ true → by_number words ≡ Some c → Takes words
@@ -90,15 +83,14 @@ takes_words (name ∷ a ∷ b ∷ []) c all e =
     let (r, s) = and_parts _ _ q in
     let (t, u) = and_parts _ _ s in
     takes_two name a b c (word a r) (word b t) e
-takes_words (name ∷ store ∷ a ∷ b ∷ []) c all e =
-    takes_ports name (a ∷ b ∷ []) (store ∷ a ∷ b ∷ []) c (λ good. let few = number_of_ports (a ∷ b ∷ []) good in absurd (omega (arith, few.0))) e
+takes_words (name ∷ a ∷ b ∷ d ∷ []) c all e = no_command _ c e
 takes_words (name ∷ store ∷ smtp ∷ imap ∷ http ∷ []) c all e =
     let (p, q) = and_parts _ _ all in
     let (r, s) = and_parts _ _ q in
     let (t, u) = and_parts _ _ s in
     let (v, w) = and_parts _ _ u in
     let (x, y) = and_parts _ _ w in
-    takes_ports name (smtp ∷ imap ∷ http ∷ []) (store ∷ smtp ∷ imap ∷ http ∷ []) c (λ good. takes-serve store smtp imap http (word store r) (word smtp t) (word imap v) (word http x)) e
+    takes_ports name smtp imap http (store ∷ smtp ∷ imap ∷ http ∷ []) (Some None) c (takes-serve store smtp imap http (word store r) (word smtp t) (word imap v) (word http x)) e
 takes_words (name ∷ store ∷ smtp ∷ imap ∷ http ∷ pop ∷ []) c all e =
     let (p, q) = and_parts _ _ all in
     let (r, s) = and_parts _ _ q in
@@ -106,10 +98,9 @@ takes_words (name ∷ store ∷ smtp ∷ imap ∷ http ∷ pop ∷ []) c all e =
     let (v, w) = and_parts _ _ u in
     let (x, y) = and_parts _ _ w in
     let (k, l) = and_parts _ _ y in
-    takes_ports name (smtp ∷ imap ∷ http ∷ pop ∷ []) (store ∷ smtp ∷ imap ∷ http ∷ pop ∷ []) c
-    (λ good. takes-serve_pop store smtp imap http pop (word store r) (word smtp t) (word imap v) (word http x) (word pop k)) e
-takes_words (name ∷ store ∷ a ∷ b ∷ d ∷ f ∷ g ∷ rest) c all e =
-    takes_ports name (a ∷ b ∷ d ∷ f ∷ g ∷ rest) (store ∷ a ∷ b ∷ d ∷ f ∷ g ∷ rest) c (λ good. let few = number_of_ports (a ∷ b ∷ d ∷ f ∷ g ∷ rest) good in absurd (omega (arith, few.1))) e
+    takes_ports name smtp imap http (store ∷ smtp ∷ imap ∷ http ∷ pop ∷ []) (some_port pop) c
+    (takes-serve_pop store smtp imap http pop (word store r) (word smtp t) (word imap v) (word http x) (word pop k)) e
+takes_words (name ∷ a ∷ b ∷ d ∷ f ∷ g ∷ h ∷ rest) c all e = no_command _ c e
 
 -- ---- any words
 

@@ -1,15 +1,14 @@
 -- Words are a command exactly where they say it.
-use Rattle.std.proofs.Common.{◌≡◌, ◌≤◌, ℕ, suc, List, [], ◌∷◌, length, map, Bool, true, false, cond, ◌&&◌, nat_le, refl, codes, bytes_eq, arith, Option, Some, None, is_some, option_map, unwrap_or, sym, ap, subst, ◌∙◌}
-use Rattle.std.specs.List.{AllByRecursion, cons_option, filter_map, list_all, zip}
-use Rattle.std.proofs.lemmas.List.{length-map}
+use Rattle.std.proofs.Common.{◌≡◌, ℕ, List, [], ◌∷◌, Bool, true, false, cond, refl, codes, bytes_eq, arith, Option, Some, None, IfSome, is_some, option_map, unwrap_or, sym, ap, subst}
+use Rattle.std.specs.List.{list_all}
 use Rattle.std.specs.Fmt.{decimal}
-use Rattle.std.proofs.lemmas.Bool.{and_parts, and_from, le-leb, false≢true}
+use Rattle.std.proofs.lemmas.Bool.{and_parts, false≢true}
 use Rattle.command_words.specs.declared.commands.Command.{Command}
 use Rattle.command_words.specs.declared.commands.Command.TheVariants.{Init, Serve, Script, Play, Grow, Check, Cut, Audit}
 use Rattle.command_words.specs.Numbers.{point_of, port_of, rounds_of}
-use Rattle.command_words.specs.Spelling.{SaysStore, IsPort, SaysPorts, Says}
-use Rattle.command_words.specs.Usage.{is_word, alone, with_one, with_two, are_ports, with_ports, by_number, command_of, behind_store, served, rows_in, ports_of}
-use Rattle.command_words.proofs.Readings.{named, no_command, number_of_ports}
+use Rattle.command_words.specs.Spelling.{SaysStore, IsPort, Says, words_of}
+use Rattle.command_words.specs.Usage.{is_word, alone, with_one, with_two, at_ports, with_ports, some_port, by_number, command_of}
+use Rattle.command_words.proofs.Readings.{named, no_command}
 use Rattle.command_words.proofs.Written.{number_to, number_from, point_from, word_decimal, word_point}
 
 -- ---- from what is read to what is said
@@ -69,34 +68,43 @@ port_to n text e =
     let (low, high, is) = number_to 1 65535 n text (omega arith) e in
     ((low, high), is)
 
--- words are these ports, as they are written
-abbrev Spelled : List (List ℕ) → List ℕ → Type 0
-Spelled words ports = AllByRecursion IsPort ports × (words ≡ map decimal ports) × (length ports ≡ length words)
+-- what a port of POP3 is that was told so, and how it is written
+abbrev Told : List (List ℕ) → Option (Option ℕ) → Type 0
+Told words pop = (p : Option ℕ) → pop ≡ Some p → IfSome p IsPort × (words ≡ words_of p)
 
-one_more : (word : List ℕ) (words : List (List ℕ)) (ports : List ℕ) (o : Option ℕ) → port_of word ≡ o → is_some o ≡ true → Spelled words ports → Spelled (word ∷ words) (cons_option o ports)
-one_more word words ports None e some spelled = absurd (false≢true some)
-one_more word words ports (Some n) e some (all, is, few) =
-    let (p, text) = port_to n word e in
-    ((p, all), rw (text, is) refl, ap suc few)
+-- some port is this one
+same_port : (p q : Option ℕ) → Some p ≡ Some q → p ≡ q
+same_port p q e = ap (λ o. unwrap_or o None) e
 
-spelled : (words : List (List ℕ)) → list_all (λ word. is_some (port_of word)) words ≡ true → Spelled words (filter_map port_of words)
-spelled [] all = (tt, refl, refl)
-spelled (word ∷ words) all =
-    let (some, rest) = and_parts (is_some (port_of word)) (list_all (λ word. is_some (port_of word)) words) all in
-    one_more word words (filter_map port_of words) (port_of word) refl some (spelled words rest)
+told_none : Told [] (Some None)
+told_none p e = subst (λ q. IfSome q IsPort × ([] ≡ words_of q)) (same_port None p e) (tt, refl)
 
-says_ports : (name store : List ℕ) (ports : List (List ℕ)) → is_word store ≡ true → name ≡ codes "serve" → are_ports ports ≡ true → SaysPorts (name ∷ store ∷ ports) (filter_map port_of ports)
-says_ports name store ports w n good =
-    let few = number_of_ports ports good in
-    let (front, each) = and_parts (nat_le 3 (length ports) && nat_le (length ports) 4) (list_all (λ word. is_some (port_of word)) ports) good in
-    let (all, is, same) = spelled ports each in
-    (store, w, subst (λ k. 3 ≤ k) (sym same) few.0, subst (λ k. k ≤ 4) (sym same) few.1, all, ap (λ t. t ∷ store ∷ ports) n ∙ ap (λ ws. codes "serve" ∷ store ∷ ws) is)
+told_some : (word : List ℕ) → Told (word ∷ []) (some_port word)
+told_some word = go (port_of word) refl where
+  go : (o : Option ℕ) → port_of word ≡ o → Told (word ∷ []) (option_map (λ port. Some port) o)
+  go None h p e = absurd (false≢true (ap is_some e))
+  go (Some n) h p e =
+      let (is, text) = port_to n word h in
+      subst (λ q. IfSome q IsPort × (word ∷ [] ≡ words_of q)) (same_port (Some n) p e) (is, ap (λ w. w ∷ []) text)
 
-says_serve : (name store : List ℕ) (ports : List (List ℕ)) (c : Command) → is_word store ≡ true → with_ports name ports ≡ Some c → Says (name ∷ store ∷ ports) c
-says_serve name store ports c w e =
-    either (Says (name ∷ store ∷ ports) c) (bytes_eq name (codes "serve") && are_ports ports) (Some Serve) None c
-    (λ t is. let (same, good) = and_parts (bytes_eq name (codes "serve")) (are_ports ports) t in
-    subst (Says (name ∷ store ∷ ports)) (same_command Serve c is) (filter_map port_of ports, says_ports name store ports w (sym (named name (codes "serve") same)) good))
+says_ports : (name store smtp imap http : List ℕ) (rest : List (List ℕ)) (pop : Option (Option ℕ)) (c : Command) (s i h : Option ℕ) → is_word store ≡ true → name ≡ codes "serve"
+    → Told rest pop → port_of smtp ≡ s → port_of imap ≡ i → port_of http ≡ h → at_ports s i h pop ≡ Some c → Says (name ∷ store ∷ smtp ∷ imap ∷ http ∷ rest) c
+says_ports name store smtp imap http rest pop c None i h w n t p q r e = no_command _ c e
+says_ports name store smtp imap http rest pop c (Some s) None h w n t p q r e = no_command _ c e
+says_ports name store smtp imap http rest pop c (Some s) (Some i) None w n t p q r e = no_command _ c e
+says_ports name store smtp imap http rest None c (Some s) (Some i) (Some h) w n t p q r e = no_command _ c e
+says_ports name store smtp imap http rest (Some pop) c (Some s) (Some i) (Some h) w n t p q r e =
+    let (ps, es) = port_to s smtp p in
+    let (pi, ei) = port_to i imap q in
+    let (ph, eh) = port_to h http r in
+    let (pp, ep) = t pop refl in
+    subst (Says (name ∷ store ∷ smtp ∷ imap ∷ http ∷ rest)) (same_command (Serve s i h pop) c e) (store, w, ps, pi, ph, pp, rw (n, es, ei, eh, ep) refl)
+
+says_serve : (name store smtp imap http : List ℕ) (rest : List (List ℕ)) (pop : Option (Option ℕ)) (c : Command) → is_word store ≡ true → Told rest pop
+    → with_ports name smtp imap http pop ≡ Some c → Says (name ∷ store ∷ smtp ∷ imap ∷ http ∷ rest) c
+says_serve name store smtp imap http rest pop c w told e =
+    either (Says (name ∷ store ∷ smtp ∷ imap ∷ http ∷ rest) c) (bytes_eq name (codes "serve")) (at_ports (port_of smtp) (port_of imap) (port_of http) pop) None c
+    (λ t is. says_ports name store smtp imap http rest pop c (port_of smtp) (port_of imap) (port_of http) w (sym (named name (codes "serve") t)) told refl refl refl is)
     (no_command _ c) e
 
 says_words : (words : List (List ℕ)) (c : Command) → list_all is_word words ≡ true → by_number words ≡ Some c → Says words c
@@ -110,10 +118,16 @@ says_words (name ∷ a ∷ b ∷ []) c all e =
     let (p, q) = and_parts _ _ all in
     let (r, s) = and_parts _ _ q in
     says_two name a b c r e
-says_words (name ∷ store ∷ a ∷ b ∷ rest) c all e =
+says_words (name ∷ a ∷ b ∷ d ∷ []) c all e = no_command _ c e
+says_words (name ∷ store ∷ smtp ∷ imap ∷ http ∷ []) c all e =
     let (p, q) = and_parts _ _ all in
     let (r, s) = and_parts _ _ q in
-    says_serve name store (a ∷ b ∷ rest) c r e
+    says_serve name store smtp imap http [] (Some None) c r told_none e
+says_words (name ∷ store ∷ smtp ∷ imap ∷ http ∷ pop ∷ []) c all e =
+    let (p, q) = and_parts _ _ all in
+    let (r, s) = and_parts _ _ q in
+    says_serve name store smtp imap http (pop ∷ []) (some_port pop) c r (told_some pop) e
+says_words (name ∷ a ∷ b ∷ d ∷ f ∷ g ∷ h ∷ rest) c all e = no_command _ c e
 
 pub read_is_said : (words : List (List ℕ)) (c : Command) → command_of words ≡ Some c → Says words c
 read_is_said words c = go (list_all is_word words) refl where
@@ -126,6 +140,10 @@ read_is_said words c = go (list_all is_word words) refl where
 abbrev Reads : List (List ℕ) → Command → Type 0
 Reads words c = command_of words ≡ Some c
 
+some_words : (a b c d : List ℕ) (rest : List (List ℕ)) → is_word a ≡ true → is_word b ≡ true → is_word c ≡ true → is_word d ≡ true → list_all is_word rest ≡ true
+    → list_all is_word (codes "serve" ∷ a ∷ b ∷ c ∷ d ∷ rest) ≡ true
+some_words a b c d rest h i j k l = rw (h, i, j, k, l) refl
+
 -- a port that is written
 word_port : (n : ℕ) → IsPort n → is_word (decimal n) ≡ true
 word_port n p = word_decimal n p.0 (omega (arith, p.1))
@@ -133,43 +151,14 @@ word_port n p = word_decimal n p.0 (omega (arith, p.1))
 port_from : (n : ℕ) → IsPort n → port_of (decimal n) ≡ Some n
 port_from n p = number_from 1 65535 n p.0 (omega arith) p.0 p.1
 
--- ports that are written
-words_of_ports : (ports : List ℕ) → AllByRecursion IsPort ports → list_all is_word (map decimal ports) ≡ true
-words_of_ports [] all = refl
-words_of_ports (n ∷ ports) (p, all) = and_from (is_word (decimal n)) (list_all is_word (map decimal ports)) (word_port n p) (words_of_ports ports all)
-
-each_port : (ports : List ℕ) → AllByRecursion IsPort ports → list_all (λ word. is_some (port_of word)) (map decimal ports) ≡ true
-each_port [] all = refl
-each_port (n ∷ ports) (p, all) =
-    and_from (is_some (port_of (decimal n))) (list_all (λ word. is_some (port_of word)) (map decimal ports)) (ap is_some (port_from n p)) (each_port ports all)
-
-ports_from : (ports : List ℕ) → AllByRecursion IsPort ports → filter_map port_of (map decimal ports) ≡ ports
-ports_from [] all = refl
-ports_from (n ∷ ports) (p, all) = rw (port_from n p, ports_from ports all) refl
-
-are_written : (ports : List ℕ) → AllByRecursion IsPort ports → 3 ≤ length ports → length ports ≤ 4 → are_ports (map decimal ports) ≡ true
-are_written ports all low high =
-    let same : length (map decimal ports) ≡ length ports = length-map ports decimal in
-    and_from (nat_le 3 (length (map decimal ports)) && nat_le (length (map decimal ports)) 4) (list_all (λ word. is_some (port_of word)) (map decimal ports))
-    (and_from (nat_le 3 (length (map decimal ports))) (nat_le (length (map decimal ports)) 4)
-    (le-leb 3 (length (map decimal ports)) (subst (λ k. 3 ≤ k) (sym same) low)) (le-leb (length (map decimal ports)) 4 (subst (λ k. k ≤ 4) (sym same) high)))
-    (each_port ports all)
-
-reads_serve : (store : List ℕ) (ports : List (List ℕ)) → is_word store ≡ true → list_all is_word ports ≡ true → are_ports ports ≡ true → Reads (codes "serve" ∷ store ∷ ports) Serve
-reads_serve store [] w all good = let few = number_of_ports [] good in absurd (omega (arith, few.0))
-reads_serve store (a ∷ []) w all good = let few = number_of_ports (a ∷ []) good in absurd (omega (arith, few.0))
-reads_serve store (a ∷ b ∷ rest) w all good =
-    let words = codes "serve" ∷ store ∷ a ∷ b ∷ rest in
-    let each : list_all is_word words ≡ true = and_from (is_word store) (list_all is_word (a ∷ b ∷ rest)) w all in
-    ap (λ t. cond t (by_number words) None) each ∙ ap (λ t. cond t (Some Serve) None) good
-
-said_serve : (words : List (List ℕ)) (ports : List ℕ) → SaysPorts words ports → Reads words Serve
-said_serve words ports (store, w, low, high, all, e) =
-    subst (λ ws. Reads ws Serve) (sym e) (reads_serve store (map decimal ports) w (words_of_ports ports all) (are_written ports all low high))
-
 pub said_is_read : (words : List (List ℕ)) (c : Command) → Says words c → command_of words ≡ Some c
 said_is_read words Init (store, w, e) = subst (λ ws. Reads ws Init) (sym e) (rw w refl)
-said_is_read words Serve (ports, says) = said_serve words ports says
+said_is_read words (Serve s i h None) (store, w, ps, pi, ph, pp, e) =
+    subst (λ ws. Reads ws (Serve s i h None)) (sym e)
+    (rw (some_words store (decimal s) (decimal i) (decimal h) [] w (word_port s ps) (word_port i pi) (word_port h ph) refl, port_from s ps, port_from i pi, port_from h ph) refl)
+said_is_read words (Serve s i h (Some p)) (store, w, ps, pi, ph, pp, e) =
+    subst (λ ws. Reads ws (Serve s i h (Some p))) (sym e)
+    (rw (some_words store (decimal s) (decimal i) (decimal h) (decimal p ∷ []) w (word_port s ps) (word_port i pi) (word_port h ph) (rw (word_port p pp) refl), port_from s ps, port_from i pi, port_from h ph, port_from p pp) refl)
 said_is_read words Script (store, w, e) = subst (λ ws. Reads ws Script) (sym e) (rw w refl)
 said_is_read words Play e = subst (λ ws. Reads ws Play) (sym e) refl
 said_is_read words (Grow n) (low, high, e) =
@@ -178,9 +167,3 @@ said_is_read words Check (store, w, e) = subst (λ ws. Reads ws Check) (sym e) (
 said_is_read words (Cut n) (store, w, high, e) =
     subst (λ ws. Reads ws (Cut n)) (sym e) (rw (w, word_point n high, point_from n high) refl)
 said_is_read words Audit (store, w, e) = subst (λ ws. Reads ws Audit) (sym e) (rw w refl)
-
--- what is asked to be served
-pub said_ports : (words : List (List ℕ)) (ports : List ℕ) → SaysPorts words ports → ports_of words ≡ zip served ports
-said_ports words ports (store, w, low, high, all, e) =
-    ap (rows_in words) (said_serve words ports (store, w, low, high, all, e))
-    ∙ subst (λ ws. zip served (filter_map port_of (behind_store ws)) ≡ zip served ports) (sym e) (ap (zip served) (ports_from ports all))

@@ -1,11 +1,9 @@
 -- The words that the program takes: `init STORE`, `serve STORE SMTP IMAP HTTP [POP]`, `script STORE`, `play`, `grow ROUNDS`, `check STORE`, `cut STORE POINT`,
 -- `audit STORE`.
-use Rattle.std.specs.Prelude.{ℕ, Bool, false, not, ◌&&◌, nat_le, ◌==◌, List, [], ◌∷◌, length, codes, bytes_eq, Option, Some, None, is_some, option_map, option_and_then, if◌then◌else◌}
-use Rattle.std.specs.List.{filter_map, list_all, zip}
-use Rattle.undo_outside.specs.declared.event.Role.{Role}
+use Rattle.std.specs.Prelude.{ℕ, Bool, false, not, ◌==◌, List, [], ◌∷◌, codes, bytes_eq, Option, Some, None, option_map, option_and_then, if◌then◌else◌}
+use Rattle.std.specs.List.{list_all}
 use Rattle.command_words.specs.declared.commands.Command.{Command}
 use Rattle.command_words.specs.declared.commands.Command.TheVariants.{Init, Serve, Script, Play, Grow, Check, Cut, Audit}
-use Rattle.undo_outside.specs.declared.event.Role.TheVariants.{Smtp, Imap, Http, Pop}
 use Rattle.command_words.specs.Numbers.{point_of, port_of, rounds_of}
 
 -- a word that may stand: it is not empty and does not begin with '-'
@@ -31,17 +29,17 @@ with_one name word =
 abbrev pub with_two : List ℕ → List ℕ → Option Command
 with_two name word = if bytes_eq name (codes "cut") then option_map (λ point. Cut point) (point_of word) else None
 
--- what can be served, in the order in which words name its ports
-abbrev pub served : List Role
-served = Smtp ∷ Imap ∷ Http ∷ Pop ∷ []
+-- the command `serve` at its ports, of which that of POP3 may be none
+abbrev pub at_ports : Option ℕ → Option ℕ → Option ℕ → Option (Option ℕ) → Option Command
+at_ports smtp imap http pop = option_and_then (λ s. option_and_then (λ i. option_and_then (λ h. option_map (λ p. Serve s i h p) pop) http) imap) smtp
 
--- words that name ports, for the first three of these or for more
-abbrev pub are_ports : List (List ℕ) → Bool
-are_ports words = nat_le 3 (length words) && nat_le (length words) (length served) && list_all (λ word. is_some (port_of word)) words
+-- a command, its store, its three ports, and one of POP3 or none
+abbrev pub with_ports : List ℕ → List ℕ → List ℕ → List ℕ → Option (Option ℕ) → Option Command
+with_ports name smtp imap http pop = if bytes_eq name (codes "serve") then at_ports (port_of smtp) (port_of imap) (port_of http) pop else None
 
--- a command, and the words behind its store
-abbrev pub with_ports : List ℕ → List (List ℕ) → Option Command
-with_ports name ports = if bytes_eq name (codes "serve") && are_ports ports then Some Serve else None
+-- a port of POP3 that a word names
+abbrev pub some_port : List ℕ → Option (Option ℕ)
+some_port word = option_map (λ port. Some port) (port_of word)
 
 -- the command that so many words are
 abbrev pub by_number : List (List ℕ) → Option Command
@@ -49,7 +47,10 @@ by_number [] = None
 by_number (name ∷ []) = alone name
 by_number (name ∷ word ∷ []) = with_one name word
 by_number (name ∷ store ∷ word ∷ []) = with_two name word
-by_number (name ∷ store ∷ first ∷ next ∷ rest) = with_ports name (first ∷ next ∷ rest)
+by_number (name ∷ a ∷ b ∷ c ∷ []) = None
+by_number (name ∷ store ∷ smtp ∷ imap ∷ http ∷ []) = with_ports name smtp imap http (Some None)
+by_number (name ∷ store ∷ smtp ∷ imap ∷ http ∷ pop ∷ []) = with_ports name smtp imap http (some_port pop)
+by_number (name ∷ a ∷ b ∷ c ∷ d ∷ e ∷ f ∷ rest) = None
 
 -- the command that words are, or none where they are of no stated shape
 abbrev pub command_of : List (List ℕ) → Option Command
@@ -64,7 +65,7 @@ second (name ∷ word ∷ rest) = Some word
 -- the word STORE of a command's words
 abbrev pub store_in : List (List ℕ) → Command → Option (List ℕ)
 store_in words Init = second words
-store_in words Serve = second words
+store_in words (Serve smtp imap http pop) = second words
 store_in words Script = second words
 store_in words Play = None
 store_in words (Grow rounds) = None
@@ -76,21 +77,32 @@ store_in words Audit = second words
 abbrev pub store_of : List (List ℕ) → Option (List ℕ)
 store_of words = option_and_then (λ command. store_in words command) (command_of words)
 
--- the words behind STORE
-abbrev pub behind_store : List (List ℕ) → List (List ℕ)
-behind_store [] = []
-behind_store (name ∷ []) = []
-behind_store (name ∷ store ∷ rest) = rest
+-- the ports of a command
+abbrev pub ports_in : Command → Option (ℕ × ℕ × ℕ)
+ports_in Init = None
+ports_in (Serve smtp imap http pop) = Some (smtp, imap, http)
+ports_in Script = None
+ports_in Play = None
+ports_in (Grow rounds) = None
+ports_in Check = None
+ports_in (Cut point) = None
+ports_in Audit = None
 
--- what is spoken, and at which port
-abbrev pub Row : Type 0
-Row = Role × ℕ
+-- the ports of `serve`, where words are of its shape
+abbrev pub ports_of : List (List ℕ) → Option (ℕ × ℕ × ℕ)
+ports_of words = option_and_then (λ command. ports_in command) (command_of words)
 
--- what the words of a command ask to be served
-abbrev pub rows_in : List (List ℕ) → Option Command → List Row
-rows_in words (Some Serve) = zip served (filter_map port_of (behind_store words))
-rows_in words other = []
+-- the port for POP3 of a command
+abbrev pub pop_in : Command → Option ℕ
+pop_in Init = None
+pop_in (Serve smtp imap http pop) = pop
+pop_in Script = None
+pop_in Play = None
+pop_in (Grow rounds) = None
+pop_in Check = None
+pop_in (Cut point) = None
+pop_in Audit = None
 
--- what words ask to be served
-abbrev pub ports_of : List (List ℕ) → List Row
-ports_of words = rows_in words (command_of words)
+-- the port for POP3 of `serve`, where words are of its shape and name one
+abbrev pub pop_of : List (List ℕ) → Option ℕ
+pop_of words = option_and_then (λ command. pop_in command) (command_of words)

@@ -4,8 +4,7 @@
 //! `commands` has the command that words are; `program` is the same for `clap`, which reads the words first. `shapes` finds the
 //! command by the words themselves; `numbers` reads ports, rounds and points; `reading` puts them together. What carries the
 //! crate: `read_words` answers a command only where `command_of` of specs/ gives it, and `Usage` only where it gives none, so
-//! that only want of memory keeps either back; `ports` has what `serve` is asked for, a list of rows (`ports_of`). `laws` says
-//! what both mean.
+//! that only want of memory keeps either back. `laws` says what `command_of` means.
 #![tactic(auto)]
 
 mod commands;
@@ -16,5 +15,5 @@ mod reading;
 mod shapes;
 
 pub use commands::{Command, WordsRefused};
-pub use laws::{one_reading, ports_are_said};
-pub use reading::{ports, read_words, store_path};
+pub use laws::one_reading;
+pub use reading::{pop_port, ports, read_words, store_path};

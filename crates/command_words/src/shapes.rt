@@ -1,21 +1,13 @@
 //! The command that words are, by the words themselves.
 //!
-//! What can be served is a list, `SERVED`: the words of `serve` name a port of each in this order, and the last may be left out.
-//! Ports may be equal, as words: the second one of them cannot be had.
-ghost use Rattle.std.specs.Prelude.{◌≡◌, Option, is_some, map, string_bytes};
+//! The port of POP3 is the last word of `serve`, and may be left out; `ports` tells the other three of either shape. Ports may be
+//! equal, as words: the second one of them cannot be had.
+ghost use Rattle.std.specs.Prelude.{◌≡◌, Option, map, string_bytes};
 ghost use Rattle.std.specs.List.{list_all};
-ghost use Rattle.command_words.specs.Numbers.{port_of};
-ghost use Rattle.command_words.specs.Usage.{is_word, alone, with_one, with_two, are_ports, with_ports, by_number, command_of};
+ghost use Rattle.command_words.specs.Usage.{is_word, alone, with_one, with_two, at_ports, with_ports, some_port, by_number, command_of};
 
 use crate::commands::Command;
 use crate::numbers::{read_point, read_port, read_rounds};
-use undo_outside::Role;
-
-/// What can be served, in the order in which words name its ports.
-pub(crate) const SERVED: [Role; 4] = [Role::Smtp, Role::Imap, Role::Http, Role::Pop];
-
-/// So many of these are served at least.
-const FEWEST: usize = 3;
 
 /// Whether a word may stand: it is not empty and does not begin with '-'.
 fn is_word(word: &String) -> bool
@@ -78,34 +70,44 @@ fn with_two(name: &str, word: &str) -> Option<Command>
     }
 }
 
-fn each_is_port(words: &[String]) -> bool
-    ensures { result ≡ list_all (λ word. is_some (port_of (string_bytes word))) words.now }
+/// The command `serve` at its ports, if all are some. That of POP3 may be none that was asked for.
+fn at_ports(
+    smtp: Option<u16>,
+    imap: Option<u16>,
+    http: Option<u16>,
+    pop: Option<Option<u16>>,
+) -> Option<Command>
+    ensures { result ≡ at_ports smtp imap http pop }
 {
-    words.iter().all(|word| read_port(word).is_some())
+    Some(Command::Serve {
+        smtp: smtp?,
+        imap: imap?,
+        http: http?,
+        pop: pop?,
+    })
 }
 
-fn all_are_ports(words: &[String]) -> bool
-    ensures { result ≡ list_all (λ word. is_some (port_of word)) (map string_bytes words.now) }
+fn with_ports(
+    name: &str,
+    smtp: &str,
+    imap: &str,
+    http: &str,
+    pop: Option<Option<u16>>,
+) -> Option<Command>
+    ensures { result ≡ with_ports name.now smtp.now imap.now http.now pop }
 {
-    each_is_port(words)
-}
-
-/// Whether words name ports, as many as can be served, or as must be.
-fn are_ports(words: &[String]) -> bool
-    ensures { result ≡ are_ports (map string_bytes words.now) }
-{
-    words.len() >= FEWEST && words.len() <= SERVED.len() && all_are_ports(words)
-}
-
-/// The command `serve`, where these words are its ports.
-fn with_ports(name: &str, ports: &[String]) -> Option<Command>
-    ensures { result ≡ with_ports name.now (map string_bytes ports.now) }
-{
-    if name == "serve" && are_ports(ports) {
-        Some(Command::Serve)
+    if name == "serve" {
+        at_ports(read_port(smtp), read_port(imap), read_port(http), pop)
     } else {
         None
     }
+}
+
+/// A port of POP3 that is asked for.
+fn some_port(word: &str) -> Option<Option<u16>>
+    ensures { result ≡ some_port word.now }
+{
+    read_port(word).map(|port| Some(port))
 }
 
 /// The command that so many words are, if each may stand.
@@ -116,8 +118,9 @@ fn by_number(words: &[String]) -> Option<Command>
         [name] => alone(name),
         [name, word] => with_one(name, word),
         [name, _, word] => with_two(name, word),
-        [name, _, ports @ ..] => with_ports(name, ports),
-        [] => None,
+        [name, _, smtp, imap, http] => with_ports(name, smtp, imap, http, Some(None)),
+        [name, _, smtp, imap, http, pop] => with_ports(name, smtp, imap, http, some_port(pop)),
+        _ => None,
     }
 }
 

@@ -1,5 +1,5 @@
 -- Which port is whose.
-use Rattle.std.specs.Prelude.{◌≡◌, ℕ, List, map, slice_get, Option, option_map}
+use Rattle.std.specs.Prelude.{◌≡◌, ℕ, List, [], ◌∷◌, map, slice_get, Option, Some, None, option_map}
 use Rattle.undo_outside.specs.declared.event.Role.{Role}
 use Rattle.undo_outside.specs.declared.event.Role.TheVariants.{Smtp, Imap, Http, Pop}
 use Rattle.host_outside.specs.declared.listeners.Listeners.{Listeners}
@@ -12,9 +12,14 @@ Row = Role × ℕ
 abbrev pub row_of : {L : Type 0} → Port L → Row
 row_of port = (port.role, port.asked)
 
--- these were asked for, and no others
-abbrev pub AskedFor : {L : Type 0} → List Row → Listeners L → Type 0
-AskedFor rows listeners = map row_of listeners.ports.items ≡ rows
+-- the row of a port that may be none
+abbrev pub rows_of : Role → Option ℕ → List Row
+rows_of role None = []
+rows_of role (Some asked) = (role, asked) ∷ []
+
+-- These were asked for, and no others: ports of SMTP, IMAP and HTTP, and of POP3 where that is given.
+abbrev pub AskedFor : {L : Type 0} → ℕ × ℕ × ℕ → Option ℕ → Listeners L → Type 0
+AskedFor (smtp, imap, http) pop listeners = map row_of listeners.ports.items ≡ (Smtp, smtp) ∷ (Imap, imap) ∷ (Http, http) ∷ rows_of Pop pop
 
 -- the row of a listener, if it is that of one
 abbrev pub row_at : {L : Type 0} → ℕ → Listeners L → Option Row

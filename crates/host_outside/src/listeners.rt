@@ -1,15 +1,17 @@
 //! The ports on which connections come, of this machine alone, and what the system tells of them and of the connections.
 //!
-//! The ports are a list of rows, each with what is spoken there, the number that was asked for and what listens. Which are asked
-//! for is a list too. They are had, looked at and told in its order, and nothing in the link knows how many there are. Where no
-//! memory is found for the list, that `next` found none: what was had is given up, and the next one begins anew.
+//! The ports are a list of rows, each with what is spoken there, the number that was asked for and what listens. They are SMTP,
+//! IMAP, the console, and POP3 where a port of it is given. They are had, looked at and told in this order, and nothing else in
+//! the link knows how many there are. Where no memory is found for the list, that `next` found none: what was had is given up,
+//! and the next one begins anew.
 //!
 //! How many may wait at a port until they are taken is 4,096, or what the system lets (`net.core.somaxconn`). By std it would be
 //! 128, so the listener is told the greater number by the C library's `listen`, which the kit declares. Beside it only the
 //! waiting goes past std.
 ghost use Rattle.std.specs.Prelude.{◌≡◌, ◌∷◌, [], ◌++◌, true, Ok, IfOk, IfSome, map, slice_get};
 ghost use Rattle.std.specs.Option.{option_map};
-ghost use Rattle.host_outside.specs.Ports.{AskedFor, Row, row_of, row_at};
+ghost use Rattle.undo_outside.specs.declared.event.Role.TheVariants.{Pop};
+ghost use Rattle.host_outside.specs.Ports.{AskedFor, Row, row_of, rows_of, row_at};
 
 use crate::readiness::Readiness;
 use crate::telling::meaning;
@@ -74,17 +76,19 @@ impl<L: OpenListener> Port<L> {
 }
 
 impl<L: OpenListener + AsRawFd> Listeners<L> {
-    /// Listens on these ports. For port 0 the system chooses one. Where one can't be had, or the system can't tell what comes, a
-    /// line on standard error says which, and why.
+    /// Listens on these ports, of SMTP, IMAP and HTTP, and on one of POP3 where that is given. For port 0 the system chooses
+    /// one. Where one can't be had, or the system can't tell what comes, a line on standard error says which, and why.
     pub(crate) fn open<R: Net<Listener = L> + Eprint>(
         net: &R,
         alloc: Global,
-        ports: &[(Role, u16)],
+        ports: (u16, u16, u16),
+        pop: Option<u16>,
     ) -> Result<Option<Listeners<L>>, NoMemory>
     where
         L: Drop,
-        ensures { IfOk result (λ listeners. IfSome listeners (AskedFor ports.now)) }
+        ensures { IfOk result (λ listeners. IfSome listeners (AskedFor ports pop)) }
     {
+        let (smtp, imap, http) = ports;
         let Some(readiness) = readiness_of(net, alloc)? else {
             return Ok(None);
         };
@@ -92,13 +96,11 @@ impl<L: OpenListener + AsRawFd> Listeners<L> {
             ports: Vec::new(alloc),
             readiness,
         };
-        for row in ports {
-            let (role, asked) = *row;
-            if !them.add(net, role, asked)? {
-                return Ok(None);
-            }
-        }
-        Ok(Some(them))
+        let all = them.add(net, Role::Smtp, smtp)?
+            && them.add(net, Role::Imap, imap)?
+            && them.add(net, Role::Http, http)?
+            && them.add_some(net, pop)?;
+        Ok(if all { Some(them) } else { None })
     }
 
     /// Listens on one more port. Answers whether it does.
@@ -118,6 +120,22 @@ impl<L: OpenListener + AsRawFd> Listeners<L> {
                 Ok(true)
             }
             None => Ok(false),
+        }
+    }
+
+    /// Listens on a port of POP3 too, where one is asked for. Answers whether nothing is left to be had.
+    fn add_some<R: Net<Listener = L> + Eprint>(
+        &mut self,
+        net: &R,
+        asked: Option<u16>,
+    ) -> Result<bool, NoMemory>
+    where
+        L: Drop,
+        ensures { result ≡ Ok true → map row_of self.new.ports.items ≡ map row_of self.old.ports.items ++ rows_of Pop asked }
+    {
+        match asked {
+            Some(asked) => self.add(net, Role::Pop, asked),
+            None => Ok(true),
         }
     }
 

@@ -16,10 +16,10 @@ use std::alloc::Global;
 use std::net::Net;
 use std::time::Clock;
 use undo_base::NoMemory;
-use undo_outside::{Event, Fault, Link, LinkFault, Role};
+use undo_outside::{Event, Fault, Link, LinkFault};
 
-/// Ports on 127.0.0.1, and at most 1,000 connections, numbered from 1 on. The lowest number that no connection has is given to
-/// the next one.
+/// Three ports on 127.0.0.1, or four, and at most 1,000 connections, numbered from 1 on. The lowest number that no connection
+/// has is given to the next one.
 #[derive(Drop)]
 pub struct LoopLink<R: Net> {
     sockets: Sockets<R>,
@@ -36,12 +36,17 @@ pub struct LoopLink<R: Net> {
 }
 
 impl<R: Net + Clock + Eprint> LoopLink<R> {
-    /// For these ports, each behind what is spoken there; for port 0 the system chooses one. It listens from the first `next` on.
-    /// Without any, or where one can't be had, each `next` fails.
-    pub fn open(rt: R, alloc: Global, ports: Vec<(Role, u16)>) -> LoopLink<R>
-        ensures { result.sockets.ports ≡ ports }
+    /// For these ports, of SMTP, IMAP and HTTP, and for one of POP3 where that is to be served; for port 0 the system chooses one.
+    /// It listens from the first `next` on. Without the three, or where one can't be had, each `next` fails.
+    pub fn open(
+        rt: R,
+        alloc: Global,
+        ports: Option<(u16, u16, u16)>,
+        pop: Option<u16>,
+    ) -> LoopLink<R>
+        ensures { (result.sockets.ports ≡ ports) × (result.sockets.pop ≡ pop) }
     {
-        let sockets = Sockets::open(rt, alloc, ports);
+        let sockets = Sockets::open(rt, alloc, ports, pop);
         let made = sockets.millis();
         LoopLink {
             sockets,

@@ -164,8 +164,9 @@ enum Visit {
 pub(crate) struct Sockets<R: Net> {
     rt: R,
     alloc: Global,
-    /// What is asked to be served, each beside its port.
-    ports: Vec<(Role, u16)>,
+    /// The ports of SMTP, IMAP and HTTP that are asked for, and that of POP3.
+    ports: Option<(u16, u16, u16)>,
+    pop: Option<u16>,
     /// What listens there, from the first event that is asked for on.
     listeners: Option<Listeners<R::Listener>>,
     seats: Vec<Seat<R::Stream>>,
@@ -197,13 +198,19 @@ pub(crate) struct Sockets<R: Net> {
 
 impl<R: Net + Clock + Eprint> Sockets<R> {
     /// For these ports, on which nothing listens yet.
-    pub(crate) fn open(rt: R, alloc: Global, ports: Vec<(Role, u16)>) -> Sockets<R>
-        ensures { result.ports ≡ ports }
+    pub(crate) fn open(
+        rt: R,
+        alloc: Global,
+        ports: Option<(u16, u16, u16)>,
+        pop: Option<u16>,
+    ) -> Sockets<R>
+        ensures { (result.ports ≡ ports) × (result.pop ≡ pop) }
     {
         Sockets {
             rt,
             alloc,
             ports,
+            pop,
             listeners: None,
             seats: Vec::new(alloc),
             spare: Vec::new(alloc),
@@ -225,7 +232,7 @@ impl<R: Net + Clock + Eprint> Sockets<R> {
     /// Listens on its ports, if it does not yet. Answers whether it listens: without ports, or where one can't be had, it does
     /// not.
     pub(crate) fn listen(&mut self) -> Result<bool, NoMemory>
-        ensures listens { IsNone self.old.listeners → IfSome self.new.listeners (AskedFor self.old.ports.items) }
+        ensures listens { IsNone self.old.listeners → IfSome self.new.listeners (λ it. IfSome self.old.ports (λ ports. AskedFor ports self.old.pop it)) }
         ensures others { self.new ≡ record self.old { listeners = self.new.listeners } }
     {
         if self.listeners.is_none() {
@@ -235,12 +242,12 @@ impl<R: Net + Clock + Eprint> Sockets<R> {
     }
 
     fn listeners_of(&self) -> Result<Option<Listeners<R::Listener>>, NoMemory>
-        ensures { IfOk result (λ it. IfSome it (AskedFor self.now.ports.items)) }
+        ensures { IfOk result (λ it. IfSome it (λ it. IfSome self.now.ports (λ ports. AskedFor ports self.now.pop it))) }
     {
-        if self.ports.is_empty() {
-            return Ok(None);
+        match self.ports {
+            Some(ports) => Listeners::open(&self.rt, self.alloc, ports, self.pop),
+            None => Ok(None),
         }
-        Listeners::open(&self.rt, self.alloc, &self.ports)
     }
 
     /// The next event, an idle one after about a second without; or none at all where nothing listens.

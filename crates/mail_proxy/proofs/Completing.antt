@@ -36,7 +36,7 @@ module _ (old new : Outside) (none : NoneFailed old new) where
   at_first None failed = absurd failed
   at_first (Some Init) (house, conf, (inl failed, finds_memory)) = no_read failed.0
   at_first (Some Init) (house, conf, (inr failed, finds_memory)) = no_write failed.1
-  at_first (Some Serve) failed = starts failed.0
+  at_first (Some (Serve smtp imap http pop)) failed = starts failed.0
   at_first (Some Script) failed = starts failed
   at_first (Some Play) failed = absurd failed
   at_first (Some (Grow rounds)) failed = absurd failed

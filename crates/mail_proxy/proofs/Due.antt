@@ -322,10 +322,10 @@ module _ (truth : TruthIsSettled) {D : Type 0} (told : D → DiskTold) (disk : D
     by_command (Some Init) (inr (inl (t, line, is, bad, two))) does = bad_init t line is bad two does
     by_command (Some Init) (inr (inr (inl (t, is, short, due)))) does = due_init t is short due does
     by_command (Some Init) (inr (inr (inr due))) does = absurd due
-    by_command (Some Serve) (inl (not_built, one)) does = absurd (let wrong : true ≡ false = not_built in cc)
-    by_command (Some Serve) (inr (inl (t, line, is, bad, two))) does = absurd (bad_none (Some Serve) t line refl (λ u e. e) bad)
-    by_command (Some Serve) (inr (inr (inl (t, is, short, due)))) does = absurd due
-    by_command (Some Serve) (inr (inr (inr due))) (same, serves) = due_serve (Some Serve) (λ records kept. refl) serves due
+    by_command (Some (Serve a b c d)) (inl (not_built, one)) does = absurd (let wrong : true ≡ false = not_built in cc)
+    by_command (Some (Serve a b c d)) (inr (inl (t, line, is, bad, two))) does = absurd (bad_none (Some (Serve a b c d)) t line refl (λ u e. e) bad)
+    by_command (Some (Serve a b c d)) (inr (inr (inl (t, is, short, due)))) does = absurd due
+    by_command (Some (Serve a b c d)) (inr (inr (inr due))) (same, serves) = due_serve (Some (Serve a b c d)) (λ records kept. refl) serves due
     by_command (Some Script) (inl (not_built, one)) does = absurd (let wrong : true ≡ false = not_built in cc)
     by_command (Some Script) (inr (inl (t, line, is, bad, two))) does = bad_script t line is bad two does
     by_command (Some Script) (inr (inr (inl (t, is, short, due)))) does = due_script t is short due does

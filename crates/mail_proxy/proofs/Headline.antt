@@ -178,7 +178,7 @@ module _ {D : Type 0} (told : D → DiskTold) (disk : D) (end : End D) (text tex
         → IsServed command before after
     by_command None does good took honest = tt
     by_command (Some Init) does good took honest = tt
-    by_command (Some Serve) (same, serves) good took honest = served_link serves good honest
+    by_command (Some (Serve smtp imap http pop)) (same, serves) good took honest = served_link serves good honest
     by_command (Some Script) scripts good took honest = served_script scripts good took honest
     by_command (Some Play) does good took honest = tt
     by_command (Some (Grow rounds)) does good took honest = tt

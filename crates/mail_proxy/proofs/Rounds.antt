@@ -77,7 +77,7 @@ few_events rounds first notes steps last few played =
 abbrev pub HasFewRounds : Option Command → Type 0
 HasFewRounds None = Unit {0}
 HasFewRounds (Some Init) = Unit {0}
-HasFewRounds (Some Serve) = Unit {0}
+HasFewRounds (Some (Serve smtp imap http pop)) = Unit {0}
 HasFewRounds (Some Script) = Unit {0}
 HasFewRounds (Some Play) = Unit {0}
 HasFewRounds (Some (Grow rounds)) = rounds ≤ 100000
@@ -92,7 +92,7 @@ few_rounds law words = by_command (command_of words) refl
     by_command : (o : Option Command) → command_of words ≡ o → HasFewRounds o
     by_command None e = tt
     by_command (Some Init) e = tt
-    by_command (Some Serve) e = tt
+    by_command (Some (Serve smtp imap http pop)) e = tt
     by_command (Some Script) e = tt
     by_command (Some Play) e = tt
     by_command (Some (Grow rounds)) e = ((law words (Grow rounds)).0 e).1

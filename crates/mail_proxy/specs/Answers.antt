@@ -24,7 +24,7 @@ module _ {D : Type 0} (told : D → DiskTold) where
   abbrev pub Does : Option Command → SourceTold → SourceTold → LinkTold → LinkTold → ℕ → SinkTold → SinkTold → D → End D → Type 0
   Does None old new link link' shown out out' disk end = Unused 1 usage old new disk end
   Does (Some Init) old new link link' shown out out' disk end = Inits told old new disk end
-  Does (Some Serve) old new link link' shown out out' disk end = (new ≡ old) × ServesStore told link link' disk end
+  Does (Some (Serve smtp imap http pop)) old new link link' shown out out' disk end = (new ≡ old) × ServesStore told link link' disk end
   Does (Some Script) old new link link' shown out out' disk end = Scripts told old new disk end
   Does (Some Play) old new link link' shown out out' disk end = Plays old new disk end
   Does (Some (Grow rounds)) old new link link' shown out out' disk end = (new ≡ old) × GrowsBy rounds disk end

@@ -64,6 +64,6 @@ pub record ServedScript (old new : Outside) : Type 0 where
 
 -- what a command that served a store comes to; of the others `Does` says all
 abbrev pub IsServed : Option Command → Outside → Outside → Type 0
-IsServed (Some Serve) old new = ServedLink old new
+IsServed (Some (Serve smtp imap http pop)) old new = ServedLink old new
 IsServed (Some Script) old new = ServedScript old new
 IsServed other old new = Unit {0}

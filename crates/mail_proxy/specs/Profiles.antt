@@ -31,7 +31,7 @@ pub record Profile : Type 0 where
 abbrev pub profile_of : Option Command → Profile
 profile_of None = record { text = NoText; desk = NoDesk; serves = false; link = false; more = false; reads = false }
 profile_of (Some Init) = record { text = Configuration; desk = Formatted; serves = false; link = false; more = false; reads = false }
-profile_of (Some Serve) = record { text = NoText; desk = Opened; serves = true; link = true; more = false; reads = false }
+profile_of (Some (Serve smtp imap http pop)) = record { text = NoText; desk = Opened; serves = true; link = true; more = false; reads = false }
 profile_of (Some Script) = record { text = EventScript; desk = Opened; serves = true; link = false; more = true; reads = false }
 profile_of (Some Play) = record { text = EventScript; desk = Begun; serves = false; link = false; more = true; reads = false }
 profile_of (Some (Grow rounds)) = record { text = NoText; desk = Begun; serves = false; link = false; more = true; reads = false }

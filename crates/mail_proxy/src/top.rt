@@ -70,7 +70,7 @@ fn do_command<R: Threads + Sync, S: Source, L: Link, D: Disk + Drop, W: Sink, G:
 {
     match command {
         Command::Init => shown(alloc, plan_init(alloc, text, disk), out),
-        Command::Serve => shown(alloc, plan_serve(rt, alloc, link, disk, gate), out),
+        Command::Serve { .. } => shown(alloc, plan_serve(rt, alloc, link, disk, gate), out),
         Command::Script => shown(alloc, plan_script(rt, alloc, text, disk, gate), out),
         Command::Play => shown(alloc, plan_play(rt, alloc, text, disk, gate), out),
         Command::Grow { rounds } => shown(alloc, (plan_grow(rt, alloc, rounds, gate), disk), out),
