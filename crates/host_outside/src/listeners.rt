@@ -15,7 +15,6 @@ ghost use Rattle.host_outside.specs.Ports.{AskedFor, Row, row_of, rows_of, row_a
 
 use crate::readiness::Readiness;
 use crate::telling::meaning;
-use mio::event::Iter;
 use std::alloc::Global;
 use std::net::{Ipv4Addr, Net, OpenListener, TcpListener};
 use std::os::fd::AsRawFd;
@@ -51,8 +50,8 @@ pub(crate) struct Arrived<S> {
 #[derive(Drop)]
 pub(crate) struct Listeners<L> {
     ports: Vec<Port<L>>,
-    /// The system tells of these ports, and of the connections that are added.
-    readiness: Readiness,
+    /// The system tells of these ports, under `PORTS`, and of the connections that are added, under the numbers of their seats.
+    pub(crate) readiness: Readiness,
 }
 
 impl<L: OpenListener> Port<L> {
@@ -137,21 +136,6 @@ impl<L: OpenListener + AsRawFd> Listeners<L> {
             Some(asked) => self.add(net, Role::Pop, asked),
             None => Ok(true),
         }
-    }
-
-    /// The system tells of this connection from now on, under the number of its seat.
-    pub(crate) fn attend<S: AsRawFd>(&self, stream: &S, place: usize) -> io::Result<()> {
-        self.readiness.add(stream, place)
-    }
-
-    /// Waits until the system tells of a port or a connection, for so many milliseconds at most.
-    pub(crate) fn wait(&mut self, millis: u64) -> io::Result<()> {
-        self.readiness.wait(millis)
-    }
-
-    /// The seats, and `PORTS`, of which the last wait was told.
-    pub(crate) fn woken(&self) -> Iter<'_> {
-        self.readiness.woken()
     }
 
     /// The port whose turn it is, if it is that of one.

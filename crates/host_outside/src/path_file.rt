@@ -164,21 +164,30 @@ where
     }
 
     fn cut(&mut self, size: u64) -> Result<(), Failed> {
-        match self.file.as_ref().ok_or(Failed)?.set_len(size) {
+        let Some(file) = self.file.as_ref() else {
+            return Err(Failed);
+        };
+        match file.set_len(size) {
             Ok(()) => Ok(()),
             Err(error) => Err(self.tell("it cannot be cut", &error)),
         }
     }
 
     fn sync_all(&mut self) -> Result<(), Failed> {
-        match self.file.as_ref().ok_or(Failed)?.sync_all() {
+        let Some(file) = self.file.as_ref() else {
+            return Err(Failed);
+        };
+        match file.sync_all() {
             Ok(()) => Ok(()),
             Err(error) => Err(self.tell("it cannot be synced", &error)),
         }
     }
 
     fn sync_bytes(&mut self) -> Result<(), Failed> {
-        match self.file.as_ref().ok_or(Failed)?.sync_data() {
+        let Some(file) = self.file.as_ref() else {
+            return Err(Failed);
+        };
+        match file.sync_data() {
             Ok(()) => Ok(()),
             Err(error) => Err(self.tell("its bytes cannot be synced", &error)),
         }

@@ -48,7 +48,7 @@ impl Readiness {
             .poll(&mut self.woken, Some(Duration::from_millis(millis)))
     }
 
-    /// The sockets that the last wait told of. There may be nothing there all the same.
+    /// The sockets that the last wait told of, by their numbers. There may be nothing there all the same.
     pub(crate) fn woken(&self) -> Iter<'_> {
         self.woken.iter()
     }

@@ -6,7 +6,7 @@
 //! connection as it is taken in.
 //!
 //! The number of a connection is that of its seat, counted from 1.
-ghost use Rattle.std.specs.Prelude.{◌≡◌, ◌<◌, ◌≤◌, ◌+◌, ℕ, true, false, IfOk, IfSome, IfNone, IsNone, None, Some, Ok, length, min, take, position};
+ghost use Rattle.std.specs.Prelude.{◌≡◌, ◌<◌, ◌≤◌, ◌+◌, ℕ, true, false, IfSome, IfNone, IsNone, None, Some, Ok, length, position};
 ghost use Rattle.std.specs.Option.{option_map, option_and_then};
 ghost use Rattle.host_outside.specs.Ports.{AskedFor, Row, row_at};
 ghost use Rattle.host_outside.specs.Ports as seats;
@@ -100,22 +100,6 @@ impl<S: Read + Write + OpenStream + Drop> Seat<S> {
         }
     }
 
-    /// How many logins its connection was refused.
-    fn refused(&self) -> usize {
-        match &self.connection {
-            Some(connection) => connection.refused(),
-            None => 0,
-        }
-    }
-
-    /// Its connection has ended, and goes on until all is sent and the other side has left, or it is given up.
-    fn is_ending(&self) -> bool {
-        match &self.connection {
-            Some(connection) => connection.is_ending(),
-            None => false,
-        }
-    }
-
     fn is_console(&self) -> bool {
         match &self.connection {
             Some(connection) => connection.is_console(),
@@ -152,7 +136,7 @@ impl<S: Read + Write + OpenStream + Drop> Seat<S> {
 enum Visit {
     /// That of the listener at a place.
     Listener(usize),
-    /// That of the next that was called.
+    /// That of the next that was called, which is called again where its connection is active.
     Called,
     /// That of the next of all seats.
     Other,
@@ -235,19 +219,14 @@ impl<R: Net + Clock + Eprint> Sockets<R> {
         ensures listens { IsNone self.old.listeners → IfSome self.new.listeners (λ it. IfSome self.old.ports (λ ports. AskedFor ports self.old.pop it)) }
         ensures others { self.new ≡ record self.old { listeners = self.new.listeners } }
     {
-        if self.listeners.is_none() {
-            self.listeners = self.listeners_of()?;
+        if self.listeners.is_some() {
+            return Ok(true);
         }
+        let Some(ports) = self.ports else {
+            return Ok(false);
+        };
+        self.listeners = Listeners::open(&self.rt, self.alloc, ports, self.pop)?;
         Ok(self.listeners.is_some())
-    }
-
-    fn listeners_of(&self) -> Result<Option<Listeners<R::Listener>>, NoMemory>
-        ensures { IfOk result (λ it. IfSome it (λ it. IfSome self.now.ports (λ ports. AskedFor ports self.now.pop it))) }
-    {
-        match self.ports {
-            Some(ports) => Listeners::open(&self.rt, self.alloc, ports, self.pop),
-            None => Ok(None),
-        }
     }
 
     /// The next event, an idle one after about a second without; or none at all where nothing listens.
@@ -282,14 +261,18 @@ impl<R: Net + Clock + Eprint> Sockets<R> {
         }
     }
 
-    /// Waits until there is something, and begins the next round. This is so many milliseconds after the last event.
+    /// Waits until there is something, and begins the next round. This is so many milliseconds after the last event. Each second
+    /// all seats are gone through, and the listeners tried again, where no seat was free or a connection could not be taken.
     fn end_round(&mut self, quiet: u64) -> io::Result<()> {
         self.hear(self.pause(quiet))?;
         let now = self.millis();
         self.looked = now;
         self.queue.begin_round();
         if now.saturating_sub(self.swept) >= SWEEP {
-            self.sweep(now);
+            self.swept = now;
+            self.sweeps = self.sweeps.wrapping_add(1);
+            self.passed = 0;
+            self.listener = 0;
         }
         Ok(())
     }
@@ -310,8 +293,8 @@ impl<R: Net + Clock + Eprint> Sockets<R> {
         let Some(listeners) = &mut self.listeners else {
             return Ok(());
         };
-        listeners.wait(millis)?;
-        for event in listeners.woken() {
+        listeners.readiness.wait(millis)?;
+        for event in listeners.readiness.woken() {
             let place = event.token().0;
             if place < SEATS {
                 self.queue.wake(place);
@@ -320,15 +303,6 @@ impl<R: Net + Clock + Eprint> Sockets<R> {
             }
         }
         Ok(())
-    }
-
-    /// All seats are gone through from now on. Where no seat was free, or a connection could not be taken, the listeners are
-    /// tried again.
-    fn sweep(&mut self, now: u64) {
-        self.swept = now;
-        self.sweeps = self.sweeps.wrapping_add(1);
-        self.passed = 0;
-        self.listener = 0;
     }
 
     /// Takes all the memory that the next event may need.
@@ -346,21 +320,20 @@ impl<R: Net + Clock + Eprint> Sockets<R> {
         Ok(())
     }
 
-    /// In each millisecond the system is asked, so that whoever comes is taken in before others are heard.
-    fn look(&mut self, now: u64) {
+    /// Goes on with the round until one has an event, or the round is over. In each millisecond the system is asked, so that
+    /// whoever comes is taken in before others are heard.
+    fn go_round(&mut self, now: u64) -> Option<Event> {
         if now != self.looked {
             self.looked = now;
             let _heard_later = self.hear(0);
         }
-    }
-
-    /// Goes on with the round until one has an event, or the round is over.
-    fn go_round(&mut self, now: u64) -> Option<Event> {
-        self.look(now);
         for _ in 0..MOST_VISITS {
             let event = match self.turn() {
                 Visit::Listener(index) => self.visit_listener(index),
-                Visit::Called => self.visit_called(now),
+                Visit::Called => match self.queue.next() {
+                    Some(place) => self.receive(place, now),
+                    None => None,
+                },
                 Visit::Other => self.visit_other(now),
                 Visit::Over => return None,
             };
@@ -390,12 +363,6 @@ impl<R: Net + Clock + Eprint> Sockets<R> {
         event
     }
 
-    /// Visits the next that was called. It is called again where its connection is active.
-    fn visit_called(&mut self, now: u64) -> Option<Event> {
-        let place = self.queue.next()?;
-        self.receive(place, now)
-    }
-
     /// Whose seat's turn it is, which is then that of the seat behind.
     fn go_on(&mut self) -> usize
         ensures turn { result ≡ self.old.place }
@@ -410,9 +377,9 @@ impl<R: Net + Clock + Eprint> Sockets<R> {
     /// Goes to the next seat, and visits it where its connection ends, or the others are visited too.
     fn visit_other(&mut self, now: u64) -> Option<Event> {
         let place = self.go_on();
-        let seat = self.seats.get(place)?;
+        let connection = self.seats.get(place)?.connection.as_ref()?;
         let is_whole = self.sweeps % WHOLE_SWEEP == 0;
-        if seat.connection.is_none() || self.queue.has(place) || !is_whole && !seat.is_ending() {
+        if self.queue.has(place) || !is_whole && !connection.is_ending() {
             return None;
         }
         self.receive(place, now)
@@ -478,7 +445,7 @@ impl<R: Net + Clock + Eprint> Sockets<R> {
         let Some(listeners) = &self.listeners else {
             return false;
         };
-        match listeners.attend(stream, place) {
+        match listeners.readiness.add(stream, place) {
             Ok(()) => true,
             Err(error) => {
                 self.tell_lost(&error);
@@ -509,7 +476,7 @@ impl<R: Net + Clock + Eprint> Sockets<R> {
             return;
         }
         if self.lost.pass(second(&self.rt)).is_some() {
-            say_lost(&self.rt, why);
+            let _told = eprintln!(self.rt; "undomail: a connection cannot be taken: {why}");
         }
     }
 
@@ -517,11 +484,16 @@ impl<R: Net + Clock + Eprint> Sockets<R> {
     fn tell_refused(&mut self, place: usize)
         ensures { self.new ≡ record self.old { refusals = self.new.refusals } }
     {
-        let Some((whose, peer)) = self.seats.get(place).and_then(|seat| seat.reader()) else {
+        let Some(seat) = self.seats.get(place) else {
+            return;
+        };
+        let Some((whose, peer)) = seat.reader() else {
             return;
         };
         if let Some(others) = self.refusals.pass(second(&self.rt)) {
-            say_refused(&self.rt, whose, &peer, others);
+            let _told = eprintln!(self.rt;
+                "undomail: wrong password over {whose} from {peer}, and {others} since the last such line"
+            );
         }
     }
 
@@ -551,7 +523,8 @@ impl<R: Net + Clock + Eprint> Sockets<R> {
     /// Ends a visit, at which the seat's connection was active or not, and was left or not: then whoever waits at a port may
     /// have the seat.
     fn settle(&mut self, place: usize, is_active: bool, is_left: bool)
-        ensures { self.new ≡ record self.old { queue = self.new.queue; listener = self.new.listener } }
+        ensures seats { self.new.seats ≡ self.old.seats }
+        ensures spare { self.new.spare ≡ self.old.spare }
     {
         if is_active {
             self.queue.mark_active(place);
@@ -561,26 +534,20 @@ impl<R: Net + Clock + Eprint> Sockets<R> {
         }
     }
 
-    /// What an event tells of what came into the buffer.
+    /// What an event tells of what came into the buffer. This goes with its first bytes: none is copied, and no memory is taken.
     fn what_came(&mut self, received: Received) -> Option<What>
         ensures told { result ≡ told_of received self.old.spare.items }
         ensures others { self.new ≡ record self.old { spare = self.new.spare } }
     {
         match received {
             Received::Nothing => None,
-            Received::Bytes(count) => Some(What::Bytes(self.take_bytes(count))),
+            Received::Bytes(count) => {
+                let mut bytes = mem::replace(&mut self.spare, Vec::new(self.alloc));
+                bytes.truncate(count.min(MOST_BYTES));
+                Some(What::Bytes(Text::from_vec(bytes)))
+            }
             Received::Left => Some(What::Left),
         }
-    }
-
-    /// The first bytes of the buffer, which goes with them: none is copied, and no memory is taken.
-    fn take_bytes(&mut self, count: usize) -> Text
-        ensures bytes { result ≡ take (min count 4096) self.old.spare.items }
-        ensures others { self.new ≡ record self.old { spare = self.new.spare } }
-    {
-        let mut bytes = mem::replace(&mut self.spare, Vec::new(self.alloc));
-        bytes.truncate(count.min(MOST_BYTES));
-        Text::from_vec(bytes)
     }
 
     pub(crate) fn alloc(&self) -> Global {
@@ -667,8 +634,11 @@ impl<R: Net + Clock + Eprint> Sockets<R> {
 
     /// How many logins the connection of a seat was refused.
     fn refused(&self, place: usize) -> usize {
-        match self.seats.get(place) {
-            Some(seat) => seat.refused(),
+        let Some(seat) = self.seats.get(place) else {
+            return 0;
+        };
+        match &seat.connection {
+            Some(connection) => connection.refused(),
             None => 0,
         }
     }
@@ -754,16 +724,4 @@ fn add_seats<S: Drop>(seats: &mut Vec<Seat<S>>) -> Result<(), NoMemory> {
         seats.push(Seat { connection: None })?;
     }
     Ok(())
-}
-
-/// The line on a connection that can't be taken.
-fn say_lost<R: Eprint>(rt: &R, why: &io::Error) {
-    let _told = eprintln!(rt; "undomail: a connection cannot be taken: {why}");
-}
-
-/// The line on a login that was refused.
-fn say_refused<R: Eprint>(rt: &R, whose: &str, peer: &SocketAddr, others: u64) {
-    let _told = eprintln!(rt;
-        "undomail: wrong password over {whose} from {peer}, and {others} since the last such line"
-    );
 }

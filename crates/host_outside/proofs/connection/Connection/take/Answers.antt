@@ -9,4 +9,4 @@ returns-then-len-gt0-clause-given g c =
     let it = c.take_kept in
     let remaining = g.S.Read.remaining in
     subst (λ stream. IsGiven (prepend_known old.kept (remaining old.stream)) (prepend_known it.new.self.kept (remaining stream)) it.new.buf it.result)
-    (sym (ap (λ s. s.stream) it.ensures.same)) (it.ensures.given (remaining old.stream))
+    (sym (ap (λ s. s.stream) {y = record old { kept = it.new.self.kept; line = it.new.self.line }} it.ensures.same)) (it.ensures.given (remaining old.stream))

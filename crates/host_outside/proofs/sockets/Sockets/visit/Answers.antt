@@ -8,13 +8,13 @@ pub returns : goal.returns
 returns g c =
     let buffer = c.receive-received.new.buf in
     let spare = c.args.self.now.spare in
-    let is_buffer = ap (λ s. s.spare.items) c.settle.ensures
+    let is_buffer = ap (λ v. v.items) c.settle.ensures.spare
     ∙ take_at buffer (drop (length buffer) spare.items) spare.len (c.receive-received.auto.buf ∙ c.deref_mut.ensures.len) in
     record {
       before = c.in_ok-seat.seat.now;
       after = c.free-is_left.new.self;
       stood = record { within = search rules; is = c.in_ok-seat.ensures.value };
-      changed = ap (λ s. s.seats.items) c.settle.ensures;
+      changed = ap (λ v. v.items) c.settle.ensures.seats;
       turned = record {
         given = λ count e.
             subst (λ bytes. Gives g.R.Stream.Write.contents g.R.Stream.Read.remaining c.in_ok-seat.seat.now bytes count)
