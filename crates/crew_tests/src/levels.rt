@@ -231,13 +231,19 @@ fn are_right(alloc: Global, came: &Came) -> Result<bool, Fail> {
 /// Whether the mixed items of forty users, one level, are right.
 fn forty_are_right<R: Threads + Sync>(rt: &R, alloc: Global) -> Result<bool, Fail> {
     let came = mixed_on(rt, alloc, &OpenGate)?;
-    are_right(alloc, &came)
+    let right = are_right(alloc, &came);
+    drop(came);
+    right
 }
 
 /// Whether one delivery is one level, and leaves the user's INBOX as it should.
 fn one_is_right<R: Threads + Sync, G: Gate>(rt: &R, alloc: Global, gate: &G) -> Result<bool, Fail> {
     let came = sent_to(rt, alloc, 1, gate)?;
-    Ok(came.levels == 1 && inbox(alloc, &came.store, 0)? == (1, 2))
+    let levels = came.levels;
+    let inbox = inbox(alloc, &came.store, 0);
+    drop(came);
+    let inbox = inbox?;
+    Ok(levels == 1 && inbox == (1, 2))
 }
 
 /// In how many levels so many deliveries were performed.
@@ -248,14 +254,18 @@ fn levels_of_sends<R: Threads + Sync, G: Gate>(
     gate: &G,
 ) -> Result<usize, Fail> {
     let came = sent_to(rt, alloc, count, gate)?;
-    Ok(came.levels)
+    let levels = came.levels;
+    drop(came);
+    Ok(levels)
 }
 
 #[test]
 fn two_sends_are_worked_out_side_by_side(rt: HostRuntime) -> Result<(), Fail> {
     let gate = Holding::new(2, 3);
-    assert!(rt; levels_of_sends(&rt, rt.alloc(), 2, &gate)? == 1);
-    assert!(rt; gate.held_and_saw());
+    let levels = levels_of_sends(&rt, rt.alloc(), 2, &gate)?;
+    let held = gate.held_and_saw();
+    assert!(rt; levels == 1);
+    assert!(rt; held);
     Ok(())
 }
 
@@ -264,29 +274,51 @@ fn the_first_and_the_last_of_forty_sends_are_worked_out_side_by_side(
     rt: HostRuntime,
 ) -> Result<(), Fail> {
     let gate = Holding::new(2, 41);
-    assert!(rt; levels_of_sends(&rt, rt.alloc(), USERS, &gate)? == 1);
-    assert!(rt; gate.held_and_saw());
+    let levels = levels_of_sends(&rt, rt.alloc(), USERS, &gate)?;
+    let held = gate.held_and_saw();
+    assert!(rt; levels == 1);
+    assert!(rt; held);
     Ok(())
+}
+
+/// In how many levels the mixed items were performed.
+fn mixed_levels<R: Threads + Sync, G: Gate>(
+    rt: &R,
+    alloc: Global,
+    gate: &G,
+) -> Result<usize, Fail> {
+    let came = mixed_on(rt, alloc, gate)?;
+    let levels = came.levels;
+    drop(came);
+    Ok(levels)
 }
 
 #[test]
 fn each_item_passes_the_gate_once(rt: HostRuntime) -> Result<(), Fail> {
     let gate = Counting::new(rt.alloc(), 50)?;
-    drop(mixed_on(&rt, rt.alloc(), &gate)?);
-    assert!(rt; gate.passed_once(2, number_of(USERS)));
+    let came = mixed_levels(&rt, rt.alloc(), &gate);
+    let passed = gate.passed_once(2, number_of(USERS));
+    drop(gate);
+    came?;
+    assert!(rt; passed);
     Ok(())
 }
 
 #[test]
 fn a_level_of_forty_items_is_right(rt: HostRuntime) -> Result<(), Fail> {
-    assert!(rt; forty_are_right(&rt, rt.alloc())?);
+    let right = forty_are_right(&rt, rt.alloc())?;
+    assert!(rt; right);
     Ok(())
 }
 
 #[test]
 fn a_level_of_one_item_passes_too(rt: HostRuntime) -> Result<(), Fail> {
     let gate = Counting::new(rt.alloc(), 4)?;
-    assert!(rt; one_is_right(&rt, rt.alloc(), &gate)?);
-    assert!(rt; gate.passed_once(2, 3));
+    let right = one_is_right(&rt, rt.alloc(), &gate);
+    let passed = gate.passed_once(2, 3);
+    drop(gate);
+    let right = right?;
+    assert!(rt; right);
+    assert!(rt; passed);
     Ok(())
 }

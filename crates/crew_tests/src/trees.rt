@@ -99,11 +99,14 @@ fn are_right(alloc: Global, came: &Came) -> Result<bool, Fail> {
 
 fn trees_are_right<R: Threads + Sync>(rt: &R, alloc: Global) -> Result<bool, Fail> {
     let came = three_on(rt, alloc)?;
-    are_right(alloc, &came)
+    let right = are_right(alloc, &came);
+    drop(came);
+    right
 }
 
 #[test]
 fn trees_of_forty_users_are_renamed_and_stay(rt: HostRuntime) -> Result<(), Fail> {
-    assert!(rt; trees_are_right(&rt, rt.alloc())?);
+    let right = trees_are_right(&rt, rt.alloc())?;
+    assert!(rt; right);
     Ok(())
 }
