@@ -1,17 +1,18 @@
-//! Mail that comes, and what the operator does.
+//! Mail that comes, and what the operator does. Each tells its answer as a number.
 ghost use Rattle.std.specs.Prelude.{◌≡◌, IfOk, false};
 ghost use Rattle.verb_core.specs.Live.{is_users};
 ghost use Rattle.desk_tests.specs.Acts.{NamesTheFirst};
 
+use crate::answers::{of_act, of_snapshot, of_submit, of_upgrade};
 use std::alloc::Global;
 use std::test::Fail;
-use time_desk::{ActFault, Desk};
+use time_desk::Desk;
 use undo_base::{Name, Names, Text, User, Users};
 use undo_outside::MemDisk;
-use verb_core::{Act, Ask, Item, SubmitFault};
+use verb_core::{Act, Ask};
 
 /// The moment of each item.
-pub(crate) const NOW: u64 = 1105092000;
+const NOW: u64 = 1105092000;
 
 /// A mail for a user.
 fn mail(alloc: Global, user: &str) -> Result<Ask, Fail>
@@ -34,43 +35,24 @@ fn alias(alloc: Global) -> Result<Act, Fail>
     Ok(Act::SetAlias { local, users })
 }
 
-/// The number of the item, or why there is none.
-fn number_of(asked: Result<Item, SubmitFault>) -> Result<u32, SubmitFault> {
-    match asked {
-        Ok(item) => {
-            let number = item.number;
-            drop(item);
-            Ok(number)
-        }
-        Err(fault) => Err(fault),
-    }
-}
-
-/// Hands a mail for a user to a desk, and tells the number of the item.
-pub(crate) fn mailed_to(
-    alloc: Global,
-    desk: &mut Desk<MemDisk>,
-    user: &str,
-) -> Result<Result<u32, SubmitFault>, Fail> {
+/// Hands a mail for a user to a desk.
+pub(crate) fn mailed(alloc: Global, desk: &mut Desk<MemDisk>, user: &str) -> Result<u32, Fail> {
     let ask = mail(alloc, user)?;
     desk.stands();
-    Ok(number_of(desk.submit(alloc, NOW, None, ask)))
+    Ok(of_submit(desk.submit(alloc, NOW, None, ask)))
 }
 
-/// Hands a mail for ann to a desk, and tells the number of the item.
-pub(crate) fn mailed(
-    alloc: Global,
-    desk: &mut Desk<MemDisk>,
-) -> Result<Result<u32, SubmitFault>, Fail> {
-    mailed_to(alloc, desk, "ann")
-}
-
-/// Sets an alias, and tells the number of the act.
-pub(crate) fn acted(
-    alloc: Global,
-    desk: &mut Desk<MemDisk>,
-) -> Result<Result<u32, ActFault>, Fail> {
+/// Sets an alias.
+pub(crate) fn acted(alloc: Global, desk: &mut Desk<MemDisk>) -> Result<u32, Fail> {
     let act = alias(alloc)?;
     desk.stands();
-    Ok(desk.act(alloc, NOW, act))
+    Ok(of_act(desk.act(alloc, NOW, act)))
+}
+
+pub(crate) fn snapped(alloc: Global, desk: &mut Desk<MemDisk>) -> u32 {
+    of_snapshot(desk.snapshot(alloc))
+}
+
+pub(crate) fn upgraded(alloc: Global, desk: &mut Desk<MemDisk>) -> u32 {
+    of_upgrade(desk.upgrade(alloc, NOW))
 }

@@ -21,9 +21,9 @@ pub(crate) const BEGUN_LATE: &[u8] =
 /// What is kept, as far as it is compared: the digest of the store, and the counts.
 pub(crate) type Kept = (Text, Counts);
 
-/// A disk with these bytes, whose calls of these ordinals fail.
-fn disk_of(alloc: Global, bytes: &[u8], failing: &[u32]) -> Result<MemDisk, Fail> {
-    let failing = Numbers::from_vec(Vec::from_slice(alloc, failing)?);
+/// A disk with these bytes, whose call of this ordinal fails.
+fn disk_of(alloc: Global, bytes: &[u8], failing: u32) -> Result<MemDisk, Fail> {
+    let failing = Numbers::from_vec(Vec::from_slice(alloc, &[failing])?);
     Ok(MemDisk::new(alloc, Text::of(alloc, bytes)?, failing))
 }
 
@@ -38,8 +38,8 @@ fn desk_of(started: Result<Desk<MemDisk>, (MemDisk, StartFault)>) -> Result<Desk
     }
 }
 
-/// A desk that is started over an image, on a disk whose calls of these ordinals fail.
-pub(crate) fn started(alloc: Global, image: &[u8], failing: &[u32]) -> Result<Desk<MemDisk>, Fail> {
+/// A desk that is started over an image, on a disk whose call of this ordinal fails.
+pub(crate) fn started(alloc: Global, image: &[u8], failing: u32) -> Result<Desk<MemDisk>, Fail> {
     let disk = disk_of(alloc, image, failing)?;
     desk_of(Desk::start(alloc, disk))
 }
@@ -53,7 +53,22 @@ pub(crate) fn kept(alloc: Global, desk: &Desk<MemDisk>) -> Result<Kept, Fail> {
     Ok((desk.digest(alloc)?, desk.counts()))
 }
 
+/// Whether the same is kept.
 pub(crate) fn keeps(alloc: Global, desk: &Desk<MemDisk>, wanted: &Kept) -> Result<bool, Fail> {
-    let digest = desk.digest(alloc)?;
-    Ok(digest == wanted.0 && desk.counts() == wanted.1)
+    let now = kept(alloc, desk)?;
+    let same = now.0 == wanted.0 && now.1 == wanted.1;
+    drop(now);
+    Ok(same)
+}
+
+/// Whether a desk is closed, and this is the number of its next item.
+pub(crate) fn is_closed_at(desk: &Desk<MemDisk>, next: u32) -> bool {
+    desk.closed() && desk.next() == next
+}
+
+/// How many writes of its disk were tried, where a desk ends.
+pub(crate) fn writes_of(disk: MemDisk) -> usize {
+    let writes = disk.writes();
+    drop(disk);
+    writes
 }

@@ -1,144 +1,103 @@
 //! Tests of what can't be sealed: it closes the desk, which then does nothing, and what is kept stays.
-use crate::asks::{acted, mailed};
-use crate::cycles::{cycled, tried, withdrawn_past};
-use crate::desks::{JOURNAL, Kept, keeps, kept, started};
-use std::alloc::Global;
+use crate::answers::{CLOSED, DISK, NO_CYCLE_2};
+use crate::courses::{Course, OPEN, Step, Work, first_wrong};
+use crate::desks::JOURNAL;
 use std::test::Fail;
-use std::thread::Threads;
-use time_desk::{ActFault, CycleFault, Desk, WithdrawFault};
-use undo_outside::{MemDisk, OpenGate};
-use verb_core::SubmitFault;
 
-/// Whether a cycle is not sealed and closes the desk. One under a new key is not done any more; one under a key that a cycle had
-/// is answered as it was, whatever it asks; and one can be tried.
-fn answers<R: Threads + Sync>(
-    rt: &R,
-    alloc: Global,
-    desk: &mut Desk<MemDisk>,
-) -> Result<bool, Fail> {
-    let failed = cycled(rt, alloc, desk, "two", &[])?;
-    let closed = cycled(rt, alloc, desk, "two", &[])?;
-    let again = cycled(rt, alloc, desk, "one", &[9])?;
-    let tried = tried(rt, alloc, desk, &[])?;
-    Ok(
-        failed == Err(CycleFault::Disk)
-            && closed == Err(CycleFault::Closed)
-            && again == Ok(3)
-            && tried == Ok(5),
-    )
+fn course<'a>(failing: u32, first: &'a [Step], then: &'a [Step], writes: usize) -> Course<'a> {
+    Course {
+        image: JOURNAL,
+        failing,
+        first,
+        then,
+        writes: Some(writes),
+    }
 }
 
-/// Whether a withdrawal is not sealed and closes the desk. One is not done any more, also where the cycle is not there. One under
-/// a key that a cycle had is answered as that was, whatever it asks.
-fn withdraws_no_more<R: Threads + Sync>(
-    rt: &R,
-    alloc: Global,
-    desk: &mut Desk<MemDisk>,
-) -> Result<bool, Fail> {
-    let other = withdrawn_past(rt, alloc, desk, "two", 2, &OpenGate)?;
-    let failed = withdrawn_past(rt, alloc, desk, "two", 3, &OpenGate)?;
-    let closed = withdrawn_past(rt, alloc, desk, "two", 2, &OpenGate)?;
-    let again = withdrawn_past(rt, alloc, desk, "one", 9, &OpenGate)?;
-    Ok(
-        other == Err(WithdrawFault::Cycle { given: 2 })
-            && failed == Err(WithdrawFault::Disk)
-            && closed == Err(WithdrawFault::Closed)
-            && again == Ok(3),
-    )
+/// The cycle 3 takes Work away, and its notice to ann is number 4.
+fn cycle() -> [Step; 1] {
+    [Step::Work(Work::Cycle(("one", 0, &[2], false)), OPEN, 3)]
 }
 
-/// Whether all is kept that was, where a cycle or a withdrawal fails.
-fn keeps_all<R: Threads + Sync>(
-    rt: &R,
-    alloc: Global,
-    desk: &mut Desk<MemDisk>,
-    before: &Kept,
-    by_cycle: bool,
-) -> Result<bool, Fail> {
-    let answers = match by_cycle {
-        true => answers(rt, alloc, desk)?,
-        false => withdraws_no_more(rt, alloc, desk)?,
-    };
-    Ok(answers && desk.closed() && desk.next() == 5 && keeps(alloc, desk, before)?)
+/// A cycle is not sealed and closes the desk. One under a new key is not done any more; one under a key that a cycle had is answered
+/// as it was, whatever it asks; and one can be tried.
+fn cycles() -> [Step; 5] {
+    [
+        Step::Work(Work::Cycle(("two", 0, &[], false)), OPEN, DISK),
+        Step::Work(Work::Cycle(("two", 0, &[], false)), OPEN, CLOSED),
+        Step::Work(Work::Cycle(("one", 0, &[9], false)), OPEN, 3),
+        Step::Work(Work::Try(("-", 0, &[], false)), OPEN, 5),
+        Step::Closed(5),
+    ]
 }
 
-/// The cycle 3 takes Work away, and its notice to ann is number 4. Then another fails, or its withdrawal.
-fn closes<R: Threads + Sync>(
-    rt: &R,
-    alloc: Global,
-    desk: &mut Desk<MemDisk>,
-    by_cycle: bool,
-) -> Result<bool, Fail> {
-    let first = cycled(rt, alloc, desk, "one", &[2])?;
-    let before = kept(alloc, desk)?;
-    let closes = keeps_all(rt, alloc, desk, &before, by_cycle);
-    drop(before);
-    let closes = closes?;
-    Ok(closes && first == Ok(3))
-}
-
-/// The same, where this call fails and so many writes are tried.
-fn closes_at<R: Threads + Sync>(
-    rt: &R,
-    alloc: Global,
-    ordinal: u32,
-    by_cycle: bool,
-    writes: usize,
-) -> Result<bool, Fail> {
-    let mut desk = started(alloc, JOURNAL, &[ordinal])?;
-    let closes = closes(rt, alloc, &mut desk, by_cycle);
-    let disk = desk.into_disk();
-    let tried = disk.writes();
-    drop(disk);
-    Ok(closes? && tried == writes)
+/// A withdrawal is not sealed and closes the desk. One is not done any more, also where the cycle is not there; one under a key
+/// that a cycle had is answered as that was, whatever it asks.
+fn withdrawals() -> [Step; 5] {
+    [
+        Step::Work(Work::Withdraw("two", 2), OPEN, NO_CYCLE_2),
+        Step::Work(Work::Withdraw("two", 3), OPEN, DISK),
+        Step::Work(Work::Withdraw("two", 2), OPEN, CLOSED),
+        Step::Work(Work::Withdraw("one", 9), OPEN, 3),
+        Step::Closed(5),
+    ]
 }
 
 // Ten calls start the desk, and four seal the first cycle. A cycle is one record, and so is a withdrawal: a write, a sync, a write
 // and a sync.
 #[test]
 fn a_failed_cycle_or_withdrawal_closes_the_desk(rt: HostRuntime) -> Result<(), Fail> {
-    for (ordinal, writes) in [(15, 3), (16, 3), (17, 4), (18, 4)] {
-        assert!(rt; closes_at(&rt, rt.alloc(), ordinal, true, writes)?);
-        assert!(rt; closes_at(&rt, rt.alloc(), ordinal, false, writes)?);
-    }
+    let (cycle, cycles, withdrawals) = (cycle(), cycles(), withdrawals());
+    let courses = [
+        course(15, &cycle, &cycles, 3),
+        course(16, &cycle, &cycles, 3),
+        course(17, &cycle, &cycles, 4),
+        course(18, &cycle, &cycles, 4),
+        course(15, &cycle, &withdrawals, 3),
+        course(16, &cycle, &withdrawals, 3),
+        course(17, &cycle, &withdrawals, 4),
+        course(18, &cycle, &withdrawals, 4),
+    ];
+    let wrong = first_wrong(&rt, rt.alloc(), &courses)?;
+    assert_eq!(rt; wrong, None);
     Ok(())
 }
 
-/// Whether a mail is not sealed, or an act; and then neither is done any more.
-fn is_closed_by(alloc: Global, desk: &mut Desk<MemDisk>, by_mail: bool) -> Result<bool, Fail> {
-    let failed = match by_mail {
-        true => mailed(alloc, desk)? == Err(SubmitFault::Disk),
-        false => acted(alloc, desk)? == Err(ActFault::Disk),
-    };
-    let closed = mailed(alloc, desk)? == Err(SubmitFault::Closed);
-    Ok(failed && closed && acted(alloc, desk)? == Err(ActFault::Closed))
+/// A mail is not sealed. Then neither one nor an act is done any more.
+fn mail() -> [Step; 4] {
+    [
+        Step::Mail(DISK),
+        Step::Mail(CLOSED),
+        Step::Act(CLOSED),
+        Step::Closed(3),
+    ]
 }
 
-/// Whether that closes the desk, and all is kept that was.
-fn stays(alloc: Global, desk: &mut Desk<MemDisk>, by_mail: bool) -> Result<bool, Fail> {
-    let before = kept(alloc, desk)?;
-    let closed = is_closed_by(alloc, desk, by_mail)?;
-    let same = keeps(alloc, desk, &before)?;
-    drop(before);
-    Ok(closed && same && desk.closed() && desk.next() == 3)
-}
-
-/// The same, where this call fails and so many writes are tried.
-fn stays_at(alloc: Global, ordinal: u32, by_mail: bool, writes: usize) -> Result<bool, Fail> {
-    let mut desk = started(alloc, JOURNAL, &[ordinal])?;
-    let stays = stays(alloc, &mut desk, by_mail);
-    let disk = desk.into_disk();
-    let tried = disk.writes();
-    drop(disk);
-    Ok(stays? && tried == writes)
+/// The same of an act.
+fn act() -> [Step; 4] {
+    [
+        Step::Act(DISK),
+        Step::Mail(CLOSED),
+        Step::Act(CLOSED),
+        Step::Closed(3),
+    ]
 }
 
 // Ten calls start the desk, and a seal is a write, a sync, a write and a sync. A closed desk writes nothing.
 #[test]
 fn a_failed_seal_closes_the_desk(rt: HostRuntime) -> Result<(), Fail> {
-    for (ordinal, writes) in [(11, 1), (12, 1), (13, 2), (14, 2)] {
-        assert!(rt; stays_at(rt.alloc(), ordinal, true, writes)?);
-        assert!(rt; stays_at(rt.alloc(), ordinal, false, writes)?);
-    }
+    let (mail, act) = (mail(), act());
+    let courses = [
+        course(11, &[], &mail, 1),
+        course(12, &[], &mail, 1),
+        course(13, &[], &mail, 2),
+        course(14, &[], &mail, 2),
+        course(11, &[], &act, 1),
+        course(12, &[], &act, 1),
+        course(13, &[], &act, 2),
+        course(14, &[], &act, 2),
+    ];
+    let wrong = first_wrong(&rt, rt.alloc(), &courses)?;
+    assert_eq!(rt; wrong, None);
     Ok(())
 }

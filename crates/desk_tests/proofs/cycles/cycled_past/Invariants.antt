@@ -1,4 +1,0 @@
-use Rattle.desk_tests.proofs.cycles.cycled_past.Given as goal
-
-abbrev pub ghosts-cycled_by : goal.ghosts-cycled_by
-ghosts-cycled_by g a = record { name = a.blank.name; parts = a.blank.parts }
