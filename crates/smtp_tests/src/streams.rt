@@ -26,13 +26,20 @@ fn are_two_lines(lines: &[SmtpLine]) -> bool {
 
 /// Whether a stream in these pieces gives the two lines, however it is cut.
 fn is_cut(alloc: Global, pieces: &[&[u8]]) -> Result<bool, Fail> {
-    let lines = cut_all(alloc, &texts(alloc, pieces)?)?;
-    Ok(are_two_lines(lines.as_slice()))
+    let texts = texts(alloc, pieces)?;
+    let cut = cut_all(alloc, &texts);
+    drop(texts);
+    let lines = cut?;
+    let are = are_two_lines(lines.as_slice());
+    drop(lines);
+    Ok(are)
 }
 
 #[test]
 fn a_stream_gives_its_lines_however_it_is_cut(rt: HostRuntime) -> Result<(), Fail> {
-    assert!(rt; is_cut(rt.alloc(), &[b"HELO x\r\nQUIT\r\n"])?);
-    assert!(rt; is_cut(rt.alloc(), &[b"HE", b"", b"LO x\r", b"\nQUIT\r\nNO", b"OP"])?);
+    let whole = is_cut(rt.alloc(), &[b"HELO x\r\nQUIT\r\n"])?;
+    let pieces = is_cut(rt.alloc(), &[b"HE", b"", b"LO x\r", b"\nQUIT\r\nNO", b"OP"])?;
+    assert!(rt; whole);
+    assert!(rt; pieces);
     Ok(())
 }
