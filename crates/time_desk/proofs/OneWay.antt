@@ -513,7 +513,7 @@ module _
         record {
           x = rest.x;
           c = rest.c;
-          split = ap (λ (l : List JournalRecord). q ∷ l) rest.split ∙ ap (λ (x : JournalRecord). x ∷ (b ++ rest.x ∷ rest.c)) (one q r (record_bytes q) (fit_a.0, refl) (fit_b.0, heads));
+          split = ◌∙◌ {c = r ∷ (b ++ rest.x ∷ rest.c)} (ap (λ (l : List JournalRecord). q ∷ l) rest.split) (ap (λ (x : JournalRecord). x ∷ (b ++ rest.x ∷ rest.c)) (one q r (record_bytes q) (fit_a.0, refl) (fit_b.0, heads)));
           spells = rest.spells;
         }
 

@@ -98,7 +98,10 @@ fn enter_judged(
     match desk.ready_item(alloc, item) {
         Ok(ready) => {
             let (item, shown) = desk.enter_shown(ready, place, from);
-            Ok(shows(&item, &shown))
+            let same = shows(&item, &shown);
+            drop(item);
+            drop(shown);
+            Ok(same)
         }
         Err(NoMemory) => Err(NoMemory),
     }
@@ -305,6 +308,7 @@ fn first_false_of<D: Disk>(
             let mut desk = desk;
             let others = after(places, count);
             let found = first_false(alloc, past, &mut desk, others);
+            drop(desk);
             with_front(alloc, past, before(places, count), found)
         }
         Err(StartFault::Damaged { place }) => Ok(Some(place)),

@@ -296,11 +296,18 @@ fn store_from<D: Disk>(
     ensures still { IsPastRead D.told past.old past.new }
 {
     desk.stands();
-    let texts = new_texts(alloc, &[])?;
-    let reading = Reading::of(past, desk, &texts, desk.next());
-    let items = desk.all_items().split_at(place).0;
-    let mut bodies = Deliveries { reading, items };
-    led_behind(alloc, desk, first, &mut bodies, place)
+    match new_texts(alloc, &[]) {
+        Ok(texts) => {
+            let reading = Reading::of(past, desk, &texts, desk.next());
+            let items = desk.all_items().split_at(place).0;
+            let mut bodies = Deliveries { reading, items };
+            led_behind(alloc, desk, first, &mut bodies, place)
+        }
+        Err(fault) => {
+            drop(first);
+            Err(fault)
+        }
+    }
 }
 
 /// The same from the newest snapshot that can serve.
@@ -445,8 +452,13 @@ fn kept_behind(alloc: Global, desk: &mail_desk::Desk, place: usize) -> Result<It
     ensures spelled { IfOk result (λ items. AllByRecursion (λ (i : TheItem). HasSpelling (KeptRecord i)) items) }
 {
     let items = desk.bare_behind(alloc, place)?;
-    check_spelled(alloc, items.as_slice())?;
-    Ok(items)
+    match check_spelled(alloc, items.as_slice()) {
+        Ok(()) => Ok(items),
+        Err(NoMemory) => {
+            drop(items);
+            Err(NoMemory)
+        }
+    }
 }
 
 /// The parts of a cut at a place, where the items through it led to this store.
@@ -463,12 +475,12 @@ fn parts_of(
     ensures texts { IfOk result (λ parts. AllByRecursion (λ (i : TheItem). IsTrue (is_some (text_in i.deed)) → IsTrue (has_text_kept desk.now.kept (body_of i))) parts.kept) }
     ensures spelled { IfOk result (λ parts. AllByRecursion (λ (i : TheItem). HasSpelling (KeptRecord i)) parts.kept) }
 {
-    let kept = kept_behind(alloc, desk, place)?;
     let rows = store.rows(alloc)?;
     let boxes = rows.as_slice();
     let bodies = bodies_in(alloc, boxes)?;
     let base = base_bytes(alloc, desk, store, boxes)?;
     let head = house_bytes(alloc, desk.house(), desk.opening())?;
+    let kept = kept_behind(alloc, desk, place)?;
     Ok(CutParts {
         head,
         base,

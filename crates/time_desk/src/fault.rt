@@ -4,7 +4,7 @@ use seal_log::{ReadFault, SealFault};
 use undo_base::NoMemory;
 
 /// Why a desk was not started.
-#[derive(Clone, Copy, Debug, PartialEq, Eq)]
+#[derive(Clone, Copy)]
 pub enum StartFault {
     /// The disk is empty, or its first gate is not open.
     NotFormatted,
@@ -18,7 +18,7 @@ pub enum StartFault {
 /// Why a request for a cycle has no report. But for `NoMemory` the first that holds is told, in this order: `Closed`, `Point`,
 /// `Numbers`, `Disk`. A key that a cycle had is answered before all of them. A plan is missing for `Point`, `Disk` or `NoMemory`
 /// alone.
-#[derive(Clone, Copy, Debug, PartialEq, Eq)]
+#[derive(Clone, Copy, PartialEq, Eq)]
 pub enum CycleFault {
     /// The timeline has no item of this number, which is not 0.
     Point { given: u32 },
@@ -34,7 +34,7 @@ pub enum CycleFault {
 
 /// Why a request for a withdrawal has no report. But for `NoMemory` the first that holds is told, in this order: `Closed`, `Cycle`,
 /// `Numbers`, `Disk`. A key that a cycle or a withdrawal had is answered before all of them.
-#[derive(Clone, Copy, Debug, PartialEq, Eq)]
+#[derive(Clone, Copy, PartialEq, Eq)]
 pub enum WithdrawFault {
     /// No cycle has this number, or a cycle or a withdrawal came after it.
     Cycle { given: u32 },

@@ -124,34 +124,7 @@ fn head_around<D: Disk>(
     }
 }
 
-/// The same, with what stands behind the text read.
-fn head_before<D: Disk>(
-    alloc: Global,
-    past: &mut Past<D>,
-    place: Place,
-    front: &[u8],
-    hole: TextPlace,
-) -> Result<Option<HeadOf>, StartFault>
-    requires place { place.gate + 5 + place.length ≤ past.old.end }
-    requires least { hole.from ≡ length front.now + 4 }
-    requires within { hole.from + hole.length ≤ place.length }
-    ensures head { IfOk result (λ found. IfSome found IsHead) }
-    ensures long { IfOk result (λ found. IfSome found (λ head. place.length ≡ length (record_bytes (headed head)))) }
-    ensures read { (payloads : List (List ℕ)) (payload : List ℕ) → Holds (D.told past.old.disk) payloads
-        → LiesAt payloads place.gate place.length payload → front.now ≡ take (length front.now) payload
-        → slice_range payload (length front.now) hole.from ≡ to_be_bytes w32 hole.length
-        → IfOk result (λ found. IfSome found (λ head. Spells (headed head) payload)) }
-    ensures still { IsPastRead D.told past.old past.new }
-    ensures bad { IfErr result (FailsReading ⊥ place.gate) }
-    ensures ok { OnOk result ((D.told past.new.disk).failed_reads ≡ (D.told past.old.disk).failed_reads) }
-    ensures fault { IfErr result (ReadCounts (D.told past.old.disk) (D.told past.new.disk)) }
-{
-    let end = hole.from + hole.length;
-    let back = past.read(alloc, place, end, place.length - end)?;
-    Ok(head_around(alloc, past, place, front, hole, &back))
-}
-
-/// The same, by the first bytes with the length of the text.
+/// The same, by the first bytes with the length of the text. What stands behind the text is read.
 fn head_behind<D: Disk>(
     alloc: Global,
     past: &mut Past<D>,
@@ -173,34 +146,12 @@ fn head_behind<D: Disk>(
     ensures ok { OnOk result ((D.told past.new.disk).failed_reads ≡ (D.told past.old.disk).failed_reads) }
     ensures fault { IfErr result (ReadCounts (D.told past.old.disk) (D.told past.new.disk)) }
 {
-    match before_hole(first, hole) {
-        Some(front) => head_before(alloc, past, place, front, hole),
-        None => Ok(None),
-    }
-}
-
-/// The same, by the record's first bytes.
-fn head_in<D: Disk>(
-    alloc: Global,
-    past: &mut Past<D>,
-    place: Place,
-    first: &[u8],
-) -> Result<Option<HeadOf>, StartFault>
-    requires place { place.gate + 5 + place.length ≤ past.old.end }
-    ensures head { IfOk result (λ found. IfSome found IsHead) }
-    ensures long { IfOk result (λ found. IfSome found (λ head. place.length ≡ length (record_bytes (headed head)))) }
-    ensures read { (payloads : List (List ℕ)) (payload : List ℕ) → Holds (D.told past.old.disk) payloads
-        → LiesAt payloads place.gate place.length payload → first.now ≡ take (length first.now) payload
-        → IfOk result (λ found. IfSome found (λ head. Spells (headed head) payload)) }
-    ensures still { IsPastRead D.told past.old past.new }
-    ensures bad { IfErr result (FailsReading ⊥ place.gate) }
-    ensures ok { OnOk result ((D.told past.new.disk).failed_reads ≡ (D.told past.old.disk).failed_reads) }
-    ensures fault { IfErr result (ReadCounts (D.told past.old.disk) (D.told past.new.disk)) }
-{
-    match hole_at(first, place.length) {
-        Some(hole) => head_behind(alloc, past, place, first, hole),
-        None => Ok(None),
-    }
+    let Some(front) = before_hole(first, hole) else {
+        return Ok(None);
+    };
+    let end = hole.from + hole.length;
+    let back = past.read(alloc, place, end, place.length - end)?;
+    Ok(head_around(alloc, past, place, front, hole, &back))
 }
 
 /// The head of the record at a place, where the record is long and has a text of its own. Where there is none the record is to be
@@ -225,5 +176,9 @@ pub(crate) fn head_at<D: Disk>(
         return Ok(None);
     }
     let first = past.read(alloc, place, 0, FIRST)?;
-    head_in(alloc, past, place, first.bytes())
+    let start = first.bytes();
+    match hole_at(start, place.length) {
+        Some(hole) => head_behind(alloc, past, place, start, hole),
+        None => Ok(None),
+    }
 }

@@ -40,7 +40,7 @@ use undo_outside::Disk;
 use verb_core::{Bodies, BodiesFault};
 
 /// Copies of items.
-pub(crate) fn copies(alloc: Global, items: &[StoredItem]) -> Result<Vec<StoredItem>, NoMemory>
+pub(crate) fn copies<T: Copies + Drop>(alloc: Global, items: &[T]) -> Result<Vec<T>, NoMemory>
     ensures { IfOk result (λ copies. copies.items ≡ items.now) }
 {
     let mut copies = Vec::new(alloc);

@@ -116,10 +116,17 @@ pub(crate) fn rewound<R: Threads + Sync, G: Gate, D: Disk, L: Ledger>(
     repairs_begin_anywhere();
     bodies_have_texts();
     let first = prepared(alloc, past, desk, due)?;
-    let texts = new_texts(alloc, due.texts())?;
-    let reading = Reading::of(past, desk, &texts, desk.next());
-    let mut bodies = DueDeliveries { reading, due };
-    rework_by_levels(rt, alloc, due, first, &mut bodies, gate, steps)
+    match new_texts(alloc, due.texts()) {
+        Ok(texts) => {
+            let reading = Reading::of(past, desk, &texts, desk.next());
+            let mut bodies = DueDeliveries { reading, due };
+            rework_by_levels(rt, alloc, due, first, &mut bodies, gate, steps)
+        }
+        Err(fault) => {
+            drop(first);
+            Err(fault)
+        }
+    }
 }
 
 /// The same, one item after the other with nothing counted, over a counter that is made of the blank ledger.
@@ -144,10 +151,17 @@ fn again<D: Disk, L: Ledger>(
     bodies_have_texts();
     let mut steps: Steps<L> = Steps::new(blank);
     let first = prepared(alloc, past, desk, due)?;
-    let texts = new_texts(alloc, due.texts())?;
-    let reading = Reading::of(past, desk, &texts, desk.next());
-    let mut bodies = DueDeliveries { reading, due };
-    rework_in_order(alloc, due, first, &mut bodies, &mut steps)
+    match new_texts(alloc, due.texts()) {
+        Ok(texts) => {
+            let reading = Reading::of(past, desk, &texts, desk.next());
+            let mut bodies = DueDeliveries { reading, due };
+            rework_in_order(alloc, due, first, &mut bodies, &mut steps)
+        }
+        Err(fault) => {
+            drop(first);
+            Err(fault)
+        }
+    }
 }
 
 // ---- what is asked

@@ -22,8 +22,8 @@ led_behind-requires-clause-texts g c =
     (tells_timeline g.D.Disk.told c.of-reading.result c.args.past.now c.args.desk.now _ r.past.1 r.desk r.replaces (r.cycle ∙ c.next.ensures) r.failed c.stands.ensures.timeline.apart c.requires.noted c.stands.ensures.undone))
 
 -- with texts as they were stored, or without any
-pub returns-clause-store : goal.returns-clause-store
-returns-clause-store g c = λ told is.
+pub returns-in-Ok-clause-store : goal.returns-in-Ok-clause-store
+returns-in-Ok-clause-store g c = λ told is.
     let told_by = g.D.Disk.told in
     let desk = c.args.desk.now in
     let first = c.args.first in

@@ -13,12 +13,12 @@ begins payload first count is within =
     let same : 0 + count - 0 ≡ length first = omega (arith, long, within, length-take (0 + count - 0) payload) in
     is ∙ ap (λ (n : ℕ). take n payload) same
 
-pub returns-clause-read : goal.returns-clause-read
-returns-clause-read g c payloads payload holds lies =
+pub returns-in-Some-clause-read : goal.returns-in-Some-clause-read
+returns-in-Some-clause-read g c payloads payload holds lies =
     let now = holds_on (g.D.Disk.told c.args.past.now.disk) (g.D.Disk.told c.read.new.self.disk) payloads c.read.ensures.still.reads holds in
     let first = c.in_ok-first.first in
     let is : first ≡ take (0 + 512 - 0) payload = c.in_ok-first.ensures.payload payloads payload holds lies in
-    c.head_in.ensures.read payloads payload now lies (subst (λ (l : List ℕ). l ≡ take (length l) payload) (sym c.bytes.ensures.value) (begins payload first 512 is (omega (arith, lies.count_is, c.if-place-le-SHORT.false))))
+    c.head_behind.ensures.read payloads payload now lies (subst (λ (l : List ℕ). l ≡ take (length l) payload) (sym c.bytes-start.ensures.value) (begins payload first 512 is (omega (arith, lies.count_is, c.if-place-le-SHORT.false))))
 
 pub returns-in_err-first-clause-bad : goal.returns-in_err-first-clause-bad
 returns-in_err-first-clause-bad g c =

@@ -1,4 +1,4 @@
-use Rattle.std.proofs.Common.{rules, ◌≡◌, ◌∙◌, ◌≤◌, Err, ap, length, subst, true}
+use Rattle.std.proofs.Common.{rules, ◌≡◌, ◌∙◌, ◌≤◌, Err, ap, length, refl, subst, true}
 use Rattle.std.proofs.lemmas.Result.{err_from_is_err_and}
 use Rattle.cycle_rules.specs.Repairing.{leaves_numbers_for}
 use Rattle.verb_core.specs.declared.bodies.BodiesFault.{BodiesFault}
@@ -22,10 +22,10 @@ rework_by_levels-requires-clause-texts g c = λ lifetimes lives.
     all_dropped (TellsOf (delivered_told g.D.Disk.told c.of-reading.result items)) c.in_ok-first.first.count items
     (tells_delivered g.D.Disk.told c.of-reading.result items c.requires.can.goes.timeline.apart
     (tells_items g.D.Disk.told c.of-reading.result c.prepared.new.past c.args.desk.now c.args.past.now.end c.args.due.now.texts items 0
-    r.past.1 r.desk (r.replaces ∙ c.in_ok-texts.ensures.texts ∙ c.texts.ensures) (r.cycle ∙ c.next.ensures) r.failed c.prepared.ensures.still.end c.requires.can.tells))
+    r.past.1 r.desk (r.replaces ∙ c.in-Ok.ensures.texts ∙ c.texts.ensures) (r.cycle ∙ c.next.ensures) r.failed c.prepared.ensures.still.end c.requires.can.tells))
 
-pub returns : goal.returns
-returns g c =
+pub returns-in-Ok : goal.returns-in-Ok
+returns-in-Ok g c =
     let r = c.of-reading.ensures in
     let done = c.rework_by_levels.ensures in
     let kept = c.args.desk.now.kept in
@@ -41,7 +41,7 @@ returns g c =
     c.bodies_have_texts.ensures.behind stands.base
     (λ heard all. c.repairs_leave_states.ensures.from kept due.at due.repair first.store.store first.count heard c.requires.can.goes stands.fresh c.in_ok-first.ensures.serves.few all left)
     (λ heard same. c.repairs_begin_anywhere.ensures.front kept due.at due.repair first.store.store first.count heard c.in_ok-first.ensures.serves.few place same)
-    c.in_ok-first.ensures.newest c.in_ok-first.ensures.first c.prepared.ensures.still c.in_ok-first.ensures.cause r.past.1 r.desk r.failed (r.cycle ∙ c.next.ensures) (r.replaces ∙ c.in_ok-texts.ensures.texts ∙ c.texts.ensures) done.leads done.reads done.made done.steps done.most)
+    c.in_ok-first.ensures.newest c.in_ok-first.ensures.first c.prepared.ensures.still c.in_ok-first.ensures.cause r.past.1 r.desk r.failed (r.cycle ∙ c.next.ensures) (r.replaces ∙ c.in-Ok.ensures.texts ∙ c.texts.ensures) done.leads done.reads done.made done.steps done.most)
 
 -- before it nothing was performed
 pub returns-in_err-first : goal.returns-in_err-first
@@ -52,8 +52,7 @@ returns-in_err-first g c =
     (cause_of Beginning Rewound (told c.args.past.now.disk) (told c.prepared.new.past.disk) c.in_err-first.field-0.0 c.in_err-first.ensures.cause)
     (λ failed. c.in_err-first.ensures.due (ap (λ (f : BodiesFault). Err f) failed)) c.prepared.ensures.still
 
-pub returns-in_err-texts : goal.returns-in_err-texts
-returns-in_err-texts g c =
-    let p = err_from_is_err_and c.from_residual-in_err-texts.result c.from_residual-in_err-texts.ensures.1 in
-    reworks_none g.D.Disk.told c.args.desk.now c.args.due.now c.args.past.now c.prepared.new.past c.args.steps.now c.from_residual-in_err-texts.result p.0 bodies_faults.NoMemory p.1 (p.2 ∙ c.in_err-texts.ensures.memory)
+pub returns-in-Err : goal.returns-in-Err
+returns-in-Err g c =
+    reworks_none g.D.Disk.told c.args.desk.now c.args.due.now c.args.past.now c.prepared.new.past c.args.steps.now (Err c.in-Err.fault) c.in-Err.fault bodies_faults.NoMemory refl c.in-Err.ensures.memory
     c.in_ok-first.ensures.cause (λ failed. absurd (cc failed)) c.prepared.ensures.still
