@@ -13,7 +13,7 @@ use std::alloc::Global;
 use undo_base::{NoMemory, Text};
 
 /// What follows what is said.
-#[derive(Clone, Copy, Debug, PartialEq, Eq)]
+#[derive(Clone, Copy)]
 pub enum After {
     /// The bytes are not yet a request: nothing was said, and the connection stays open.
     Waits,
@@ -30,7 +30,7 @@ pub enum After {
 }
 
 /// What a connection is told, and what follows.
-#[derive(Debug, Drop)]
+#[derive(Drop)]
 pub struct Reply {
     pub said: Text,
     pub after: After,
