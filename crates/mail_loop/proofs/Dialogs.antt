@@ -1,6 +1,6 @@
 -- Turns of a session, whatever it speaks: what it gives, what is asked of the desk, and the texts that are read for it.
 use Rattle.std.proofs.lemmas.List.{append-nil, append_assoc}
-use Rattle.std.proofs.Common.{◌≡◌, ◌⊎◌, ℕ, add-zero, zero-add, Bool, cond, [], true, false, true≢false, List, ◌∷◌, ◌++◌, Option, None, Some, option_map, unwrap_or, Result, Ok, Err, refl, ap, subst, sym, ◌∙◌, inl, inr}
+use Rattle.std.proofs.Common.{◌≡◌, ◌⊎◌, ℕ, add-zero, zero-add, Bool, cond, IsTrue, map, [], true, false, true≢false, List, ◌∷◌, ◌++◌, Option, None, Some, option_map, unwrap_or, Result, Ok, Err, refl, ap, subst, sym, ◌∙◌, inl, inr}
 use Rattle.undo_base.specs.declared.keys.User.{User}
 use Rattle.seal_log.specs.declared.fault.ReadFault.{ReadFault}
 use Rattle.seal_log.specs.declared.fault.ReadFault.TheVariants.{Disk as NotRead, NoMemory as NoneForTexts}
@@ -13,11 +13,14 @@ use Rattle.verb_core.specs.declared.conf.House.{House}
 use Rattle.verb_core.specs.declared.item.Item.{Item}
 use Rattle.verb_core.specs.declared.mailbox.Body.{Body}
 use Rattle.verb_core.specs.declared.mailbox.BoxId.{BoxId}
+use Rattle.verb_core.specs.declared.mailbox.Mailbox.{Mailbox}
+use Rattle.verb_core.specs.Boxes.{is_rising}
 use Rattle.verb_core.specs.Live.{live}
-use Rattle.verb_core.specs.Store.{is_known}
+use Rattle.verb_core.specs.Store.{MailStore, is_known}
 use Rattle.store_kept.specs.Kept.{Kept, store_of}
 use Rattle.store_kept.specs.Texts.{texts_kept}
 use Rattle.mail_desk.specs.Desk.{Submitted, submitted_as}
+use Rattle.mail_desk.proofs.Stampings.{rise_alike}
 use Rattle.verb_bytes.specs.declared.journal.JournalRecord.{JournalRecord}
 use Rattle.verb_bytes.specs.declared.journal.JournalRecord.TheVariants.{Verb}
 use Rattle.desk_journal.specs.Reading.{Reads, failed_once, none_read, wrong_once}
@@ -46,6 +49,11 @@ house_stays S kept kept' at by ask (Ok item) (is, seals) =
 house_stays S kept kept' at by ask (Err (IsRefused why)) (due, same, seals) = ap (λ (k : Kept). k.house) same
 house_stays S kept kept' at by ask (Err Disk) (item, is, same, seals) = ap (λ (k : Kept). k.house) same
 house_stays S kept kept' at by ask (Err Closed) wrong = absurd wrong
+
+-- the stamps' names are those of the mailboxes, which rise
+pub stamps_rise : (stamps : List (BoxId × ℕ)) (s : MailStore) (boxes : List (BoxId × Mailbox)) → map (λ (r : BoxId × ℕ). r.0) stamps ≡ map (λ (r : BoxId × Mailbox). r.0) boxes → s.boxes ≡ boxes
+    → IsTrue (is_rising s.boxes) → IsTrue (is_rising stamps)
+stamps_rise stamps s boxes named same rising = rise_alike stamps s.boxes (named ∙ ap (map (λ (r : BoxId × Mailbox). r.0)) (sym same)) rising
 
 -- ---- what is said: the last words
 abbrev words : Out → List ℕ
@@ -167,6 +175,12 @@ module _ {D : Type 0} (speech : Speech D) where
       subst (λ (t : Took D). Takes IsNone (record (settled_as t.out kept t.dialog) { unsealed = []; counts = none_counted }) old kept e new ⊎ Takes IsNone (ends {D = D} [] kept) old kept e new) (sym is)
       (subst (λ (t : Turn D). Takes IsNone t old kept e new ⊎ Takes IsNone (ends {D = D} [] kept) old kept e new) (none_failed out kept e) (out_told out kept e old new stays told))
 
+  -- over the store and the stamps that are kept
+  pub settled_over : (kept : Kept) (s : MailStore) (stamps : List (BoxId × ℕ)) (d : D) (outcome : Result Item SubmitFault) (t : Took D) → s ≡ store_of kept → stamps ≡ kept.stamps
+      → speech.settle s stamps d outcome ≡ t → speech.settle (store_of kept) kept.stamps d outcome ≡ t
+  settled_over kept s stamps d outcome t same stamped is =
+      ap (λ (x : MailStore). speech.settle x kept.stamps d outcome) (sym same) ∙ ap (λ (q : List (BoxId × ℕ)). speech.settle s q d outcome) (sym stamped) ∙ is
+
   -- the session was told of its ask's outcome, and answers
   settles_told : (outcome : Result Item SubmitFault) (kept : Kept) (d e : D) (out : Out) (old new : Reply) → old.closes ≡ false → is_answer out ≡ true
       → speech.settle (store_of kept) kept.stamps d outcome ≡ took out e → IsTold out old new → Settles speech outcome kept d old e new
@@ -200,6 +214,11 @@ module _ {D : Type 0} (speech : Speech D) where
 
   pub due_if_some : (d : D) (further : Option Ask) (ask : Ask) → further ≡ Some ask → IsDueNext speech d further → IsDueNext speech d (Some ask)
   due_if_some d further ask is due = subst (λ (o : Option Ask). IsDueNext speech d o) is due
+
+  -- it asks this further
+  pub asks_further : (outcome : Result Item SubmitFault) (kept : Kept) (d : D) (old : Reply) (e : D) (new : Reply) (further : Option Ask) (ask : Ask) → further ≡ Some ask
+      → SettlesOrAsks speech outcome kept d old e new further → SettlesOrAsks speech outcome kept d old e new (Some ask)
+  asks_further outcome kept d old e new further ask is settles = subst (λ (o : Option Ask). SettlesOrAsks speech outcome kept d old e new o) is settles
 
   -- behind an answer nothing is awaited, and nobody asks
   pub free_answered : (out : Out) (d : D) → is_answer out ≡ true → IsAwaitedLast speech out d → speech.is_free d ≡ true

@@ -26,11 +26,11 @@ use Rattle.verb_bytes.specs.declared.journal.JournalRecord.{JournalRecord}
 use Rattle.mail_loop.specs.TurnCounts.{TurnCounts}
 use Rattle.mail_loop.specs.declared.reply.Reply.{Reply}
 use Rattle.mail_loop.specs.State.{Seats}
-use Rattle.mail_loop.specs.Turn.{lost, says}
-use Rattle.mail_loop.specs.Session.{followed, hindered, is_answer}
-use Rattle.mail_loop.specs.Hindrance.{Hindrance, Refused, Unheard, under}
+use Rattle.mail_loop.specs.Turn.{Turn, lost, says}
+use Rattle.mail_loop.specs.Session.{followed, hindered, is_answer, submits}
+use Rattle.mail_loop.specs.Hindrance.{Hindrance, Refused, Unheard, Service, under}
 use Rattle.mail_loop.specs.SmtpTurn.{answers, is_free, memory_told, of_smtp, smtp_session, smtp_speech, took_by}
-use Rattle.mail_loop.specs.Took.{Adds, AreThere, AsksAs, GoesOn, IsNext, IsNone, Takes}
+use Rattle.mail_loop.specs.Took.{Adds, AsksAs, GoesOn, IsAwaitedLast, IsNone, Takes}
 use Rattle.mail_loop.proofs.Units.{begun_turn}
 use Rattle.mail_loop.proofs.Telling.{closed, told_whole}
 
@@ -160,12 +160,12 @@ pub free_goes_on : (texts : Result (List (List ℕ)) ReadFault) (said : List ℕ
 free_goes_on (Ok texts) said d free = free
 free_goes_on (Err why) said d free = free
 
--- which call is due behind a line
-pub next_of : (d : Dialog) (out : SmtpOut) (e : Dialog) → AsksAtEnd d out e → IsNext smtp_speech (of_smtp out) e
-next_of d Nothing e is = is_at_rest e is
-next_of d (Say said) e is = is_at_rest e is
-next_of d (Bye said) e is = is_at_rest e is
-next_of d (Asks ask) e is = is.1
+-- what is awaited behind a line: no texts are wanted
+pub awaited_of : (d : Dialog) (out : SmtpOut) (e : Dialog) → AsksAtEnd d out e → IsAwaitedLast smtp_speech (of_smtp out) e
+awaited_of d Nothing e is = is_at_rest e is
+awaited_of d (Say said) e is = is_at_rest e is
+awaited_of d (Bye said) e is = is_at_rest e is
+awaited_of d (Asks ask) e is = is.1
 
 -- what is asked is no user's ask
 pub asks_as_of : (d : Dialog) (out : SmtpOut) (e : Dialog) → AsksAtEnd d out e → AsksAs smtp_speech (of_smtp out) e
@@ -174,22 +174,23 @@ asks_as_of d (Say said) e is = tt
 asks_as_of d (Bye said) e is = tt
 asks_as_of d (Asks ask) e is = is.2
 
--- no texts are wanted
-pub none_wanted : (kept : Kept) (out : SmtpOut) → AreThere kept (of_smtp out)
-none_wanted kept Nothing = tt
-none_wanted kept (Say said) = tt
-none_wanted kept (Bye said) = tt
-none_wanted kept (Asks ask) = tt
+-- what it gives is followed as what has its texts
+followed_as : (desk : Service) (kept : Kept) (out : SmtpOut) (d : Dialog) → submits smtp_speech desk kept (of_smtp out) d ≡ followed smtp_speech desk kept (of_smtp out) d
+followed_as desk kept Nothing d = refl
+followed_as desk kept (Say said) d = refl
+followed_as desk kept (Bye said) d = refl
+followed_as desk kept (Asks ask) d = refl
 
 -- ---- a line
 
 -- what follows from what a line gives is its turn, whatever the other connections
 pub line_turn : (S : List JournalRecord → TurnCounts → Type 0) (at : ℕ) (kept kept' : Kept) (d e e' : Dialog) (line : SmtpLine) (out : SmtpOut) (old new : Reply)
     → session.turn kept.house (store_of kept).conf at d line ≡ session.turns out e
-    → (h : Hindrance) × Takes S (under h at kept (λ desk. followed smtp_speech desk kept (of_smtp out) e)) old kept' e' new
+    → (h : Hindrance) × Takes S (under h at kept (λ desk. submits smtp_speech desk kept (of_smtp out) e)) old kept' e' new
     → (h : Hindrance) × ((others : Seats) → Takes S (hindered smtp_session h at kept others d line) old kept' e' new)
 line_turn S at kept kept' d e e' line out old new is t =
-    let u = begun_turn smtp_session S at kept kept' [] d e e' line (of_smtp out) old new (ap took_by is) t in
+    let follows = subst (λ (f : Service → Turn Dialog). (h : Hindrance) × Takes S (under h at kept f) old kept' e' new) (λ j desk. followed_as desk kept out e j) t in
+    let u = begun_turn smtp_session S at kept kept' [] d e e' line (of_smtp out) old new (ap took_by is) follows in
     (u.0, λ others. u.1)
 
 -- no memory was found for a line of a text

@@ -15,7 +15,7 @@ ghost use Rattle.mail_loop.specs.Turns.{smtp_source};
 use crate::out::of_smtp;
 use crate::reply::{Reply, say};
 use crate::serves::Serves;
-use crate::turn::{close, follow};
+use crate::turn::{close, go_on};
 use smtp_lines::{Cutter, SmtpLine};
 use smtp_session::{SmtpSession, memory_text};
 use std::alloc::Global;
@@ -73,7 +73,7 @@ impl Serves for SmtpSession {
         seals_join::<D>();
         let (_users, _current) = (users, current);
         match self.take(alloc, desk.house(), desk.conf(), at, &line) {
-            Ok(out) => follow(alloc, desk, self, at, of_smtp(alloc, out), reply),
+            Ok(out) => go_on(alloc, desk, self, at, of_smtp(alloc, out), reply),
             Err(NoMemory) => run_out_of_memory(self, reply),
         }
     }

@@ -15,16 +15,16 @@
 //!
 //! The session is told of an outcome again, as of want of memory, only after a refusal (`is_refused`). After an item that is
 //! kept, and after a failed seal, the connection closes without that answer.
-ghost use Rattle.std.specs.Prelude.{◌≡◌, is_some, true, false, IfOk, IsTrue, OnErr};
+ghost use Rattle.std.specs.Prelude.{◌≡◌, is_some, true, false, IsTrue};
 ghost use Rattle.std.specs.List.{list_all};
 ghost use Rattle.verb_core.specs.declared.conf.House.{House as TheHouse};
 ghost use Rattle.verb_core.specs.Live.{is_users};
-ghost use Rattle.store_kept.specs.Kept.{store_of, Kept};
+ghost use Rattle.store_kept.specs.Kept.{Kept};
 ghost use Rattle.store_kept.specs.Texts.{has_text_kept};
 ghost use Rattle.mail_loop.specs.Asked.{HaveSealed};
-ghost use Rattle.mail_loop.specs.Session.{done, followed, is_home, is_said, pursued, submits, took};
+ghost use Rattle.mail_loop.specs.Session.{followed, is_home, is_said, pursued, submits};
 ghost use Rattle.mail_loop.specs.Hindrance.{Hindrance, under};
-ghost use Rattle.mail_loop.specs.Took.{AreThere, AsksAs, IsAwaitedLast, IsDueNext, IsLast, IsNext, IsTold, ReadsNone, ReadsOutOfMemory, SettlesAgain, SettlesOrAsks, Takes, TakesTexts, asked_in};
+ghost use Rattle.mail_loop.specs.Took.{AreThere, AsksAs, IsAwaitedLast, IsDueNext, IsNext, IsTold, ReadsOutOfMemory, SettlesAgain, SettlesOrAsks, Takes, asked_in};
 
 use crate::asking::{ask_desk, is_refused};
 use crate::out::Out;
@@ -35,7 +35,7 @@ use seal_log::ReadFault;
 use std::alloc::Global;
 use time_desk::Desk;
 use time_desk::laws::seals_join;
-use undo_base::{NoMemory, Texts};
+use undo_base::NoMemory;
 use undo_outside::Disk;
 use verb_core::{Ask, Item, Refused, SubmitFault};
 
@@ -69,23 +69,6 @@ fn tell(reply: &mut Reply, out: Out) -> Option<Ask>
     }
 }
 
-/// The session takes an outcome over what the desk keeps.
-fn settle_with<S: Speaks, D: Disk + Drop>(
-    alloc: Global,
-    desk: &Desk<D>,
-    session: &mut S,
-    outcome: &Result<Item, SubmitFault>,
-) -> Result<Out, NoMemory>
-    requires due { S.speech.is_due session.old ≡ true }
-    ensures ok { IfOk result (λ out. S.speech.settle (store_of desk.now.kept) desk.now.kept.stamps session.old outcome.now ≡ took out session.new) }
-    ensures next { IfOk result (λ out. IsAwaitedLast S.speech out session.new) }
-    ensures user { IfOk result (λ out. AsksAs S.speech out session.new) }
-    ensures home { (house : TheHouse) → is_home S.speech house session.old ≡ true → is_home S.speech house session.new ≡ true }
-    ensures err { OnErr result (session.new ≡ session.old) }
-{
-    session.take_outcome(alloc, desk.store(), desk.stamps(), outcome)
-}
-
 /// Tells the session of want of memory, where its ask was refused. An item that is kept is left unanswered.
 fn settle_again<S: Speaks, D: Disk + Drop>(
     alloc: Global,
@@ -105,7 +88,7 @@ fn settle_again<S: Speaks, D: Disk + Drop>(
         return close(session, reply);
     }
     let out_of_memory = Err(SubmitFault::Refused(Refused::NoMemory));
-    match settle_with(alloc, desk, session, &out_of_memory) {
+    match session.take_outcome(alloc, desk.store(), desk.stamps(), &out_of_memory) {
         Ok(out) => {
             let _none = tell(reply, out);
         }
@@ -128,7 +111,7 @@ fn settle<S: Speaks, D: Disk + Drop>(
     ensures home { is_home S.speech desk.now.kept.house session.new ≡ true }
     ensures settled { SettlesOrAsks S.speech outcome.now desk.now.kept session.old reply.old session.new reply.new result }
 {
-    match settle_with(alloc, desk, session, outcome) {
+    match session.take_outcome(alloc, desk.store(), desk.stamps(), outcome) {
         Ok(out) => tell(reply, out),
         Err(NoMemory) => {
             settle_again(alloc, desk, session, is_refused(outcome), reply);
@@ -137,33 +120,8 @@ fn settle<S: Speaks, D: Disk + Drop>(
     }
 }
 
-/// Asks the desk what the outcome of an ask led to: a turn of its own. The first stays done, whatever becomes of this.
-fn submit_further<S: Speaks, D: Disk + Drop>(
-    alloc: Global,
-    desk: &mut Desk<D>,
-    session: &mut S,
-    at: u64,
-    ask: Ask,
-    reply: &mut Reply,
-)
-    requires due { S.speech.is_due session.old ≡ true }
-    requires last { IsLast S.speech session.old }
-    requires user { is_users ask ≡ is_some (S.speech.user session.old) }
-    requires stays { reply.old.closes ≡ false }
-    requires home { is_home S.speech desk.old.kept.house session.old ≡ true }
-    requires sealed { desk.old.closed ≡ false }
-    ensures free { S.speech.is_free session.new ≡ true }
-    ensures home { is_home S.speech desk.new.kept.house session.new ≡ true }
-    ensures house { desk.new.kept.house ≡ desk.old.kept.house }
-    ensures turn { (h : Hindrance) ×
-        Takes (HaveSealed D.told desk.old desk.new) (under h at desk.old.kept (λ service. done S.speech desk.old.kept session.old (service.asked (S.speech.user session.old) ask))) reply.old desk.new.kept session.new reply.new }
-{
-    let last = ask_desk(alloc, desk, session, at, ask, reply);
-    let _none = settle(alloc, desk, session, &last, reply);
-}
-
 /// Asks the desk for who is logged in, and tells the session what became of that. Where that leads to a further ask the desk is asked
-/// that too.
+/// that too: a turn of its own. The first stays done, whatever becomes of it.
 fn submit<S: Speaks, D: Disk + Drop>(
     alloc: Global,
     desk: &mut Desk<D>,
@@ -187,12 +145,15 @@ fn submit<S: Speaks, D: Disk + Drop>(
     let outcome = ask_desk(alloc, desk, session, at, ask, reply);
     match settle(alloc, desk, session, &outcome, reply) {
         None => {}
-        Some(further) => submit_further(alloc, desk, session, at, further, reply),
+        Some(further) => {
+            let last = ask_desk(alloc, desk, session, at, further, reply);
+            let _none = settle(alloc, desk, session, &last, reply);
+        }
     }
 }
 
-/// Does what comes of a unit whose session has its texts.
-fn go_on<S: Speaks, D: Disk + Drop>(
+/// Does what comes of a unit whose session wants no texts, or has them.
+pub fn go_on<S: Speaks, D: Disk + Drop>(
     alloc: Global,
     desk: &mut Desk<D>,
     session: &mut S,
@@ -210,6 +171,7 @@ fn go_on<S: Speaks, D: Disk + Drop>(
     ensures house { desk.new.kept.house ≡ desk.old.kept.house }
     ensures turn { (h : Hindrance) ×
         Takes (HaveSealed D.told desk.old desk.new) (under h at desk.old.kept (λ service. submits S.speech service desk.old.kept out session.old)) reply.old desk.new.kept session.new reply.new }
+    ensures still { is_said out ≡ true → (desk.new ≡ desk.old) × (session.new ≡ session.old) × IsTold out reply.old reply.new }
 {
     seals_join::<D>();
     match out {
@@ -236,48 +198,7 @@ pub fn read_out_of_memory<S: Speaks>(alloc: Global, session: &mut S, reply: &mut
     }
 }
 
-/// Tells the session why its texts were not read, or, where it finds no memory for that, of want of memory.
-fn read_none<S: Speaks>(alloc: Global, session: &mut S, why: ReadFault, reply: &mut Reply)
-    requires reading { S.speech.takes_texts session.old ≡ true }
-    requires stays { reply.old.closes ≡ false }
-    ensures free { S.speech.is_free session.new ≡ true }
-    ensures home { (house : TheHouse) → is_home S.speech house session.old ≡ true → is_home S.speech house session.new ≡ true }
-    ensures read { (kept : Kept) → ReadsNone S.speech why kept session.old reply.old session.new reply.new }
-{
-    match session.take_texts(alloc, &Err(why)) {
-        Ok(out) => {
-            let _none = tell(reply, out);
-        }
-        Err(NoMemory) => read_out_of_memory(alloc, session, reply),
-    }
-}
-
-/// Hands the session texts.
-fn hand_texts<S: Speaks, D: Disk + Drop>(
-    alloc: Global,
-    desk: &mut Desk<D>,
-    session: &mut S,
-    at: u64,
-    texts: Texts,
-    reply: &mut Reply,
-)
-    requires reading { S.speech.takes_texts session.old ≡ true }
-    requires stays { reply.old.closes ≡ false }
-    requires home { is_home S.speech desk.old.kept.house session.old ≡ true }
-    requires sealed { desk.old.closed ≡ false }
-    ensures free { S.speech.is_free session.new ≡ true }
-    ensures home { is_home S.speech desk.new.kept.house session.new ≡ true }
-    ensures house { desk.new.kept.house ≡ desk.old.kept.house }
-    ensures turn { TakesTexts S.speech (HaveSealed D.told desk.old desk.new) at desk.old.kept texts session.old reply.old desk.new.kept session.new reply.new }
-{
-    seals_join::<D>();
-    match session.take_texts(alloc, &Ok(texts)) {
-        Ok(out) => go_on(alloc, desk, session, at, out, reply),
-        Err(NoMemory) => read_out_of_memory(alloc, session, reply),
-    }
-}
-
-/// Reads the texts that the session wants, and hands them to it. Where one is not read the session is told, and goes on.
+/// Reads the texts that the session wants, and hands them to it, or why one was not read.
 fn read<S: Speaks, D: Disk + Drop>(
     alloc: Global,
     desk: &mut Desk<D>,
@@ -298,9 +219,10 @@ fn read<S: Speaks, D: Disk + Drop>(
         Takes (HaveSealed D.told desk.old desk.new) (under h at desk.old.kept (λ service. followed S.speech service desk.old.kept (Out.Read bodies.now) session.old)) reply.old desk.new.kept session.new reply.new }
 {
     seals_join::<D>();
-    match desk.texts(alloc, bodies.as_slice()) {
-        Ok(texts) => hand_texts(alloc, desk, session, at, texts, reply),
-        Err(why) => read_none(alloc, session, why, reply),
+    let texts = desk.texts(alloc, bodies.as_slice());
+    match session.take_texts(alloc, &texts) {
+        Ok(out) => go_on(alloc, desk, session, at, out, reply),
+        Err(NoMemory) => read_out_of_memory(alloc, session, reply),
     }
 }
 
@@ -328,9 +250,7 @@ pub fn follow<S: Speaks, D: Disk + Drop>(
 {
     seals_join::<D>();
     match out {
-        Out::Say(text) => say(reply, text.bytes(), false),
-        Out::Bye(text) => say(reply, text.bytes(), true),
         Out::Read(bodies) => read(alloc, desk, session, at, &bodies, reply),
-        Out::Submit(ask) => submit(alloc, desk, session, at, ask, reply),
+        other => go_on(alloc, desk, session, at, other, reply),
     }
 }

@@ -1,38 +1,10 @@
-use Rattle.std.proofs.Common.{refl, ap}
-use Rattle.mail_loop.specs.declared.out.Out.{Out}
-use Rattle.mail_loop.specs.declared.out.Out.TheVariants.{Read, Submit}
+use Rattle.std.proofs.Common.{ap}
+use Rattle.mail_loop.specs.declared.out.Out.TheVariants.{Read}
+use Rattle.desk_journal.specs.Lasting.{Lasting}
 use Rattle.mail_loop.specs.Asked.{HaveSealed}
-use Rattle.mail_loop.specs.Turn.{Turn}
-use Rattle.mail_loop.specs.Session.{followed}
-use Rattle.mail_loop.specs.Hindrance.{Hindrance, under, service}
-use Rattle.mail_loop.proofs.Dialogs.{bye_turn, out_turn, said_turn}
-use Rattle.mail_loop.proofs.Sealed.{unsealed}
-use Rattle.mail_loop.proofs.Telling.{lifted_turn}
+use Rattle.mail_loop.proofs.Dialogs.{out_turn}
+use Rattle.mail_loop.proofs.TextsRead.{awaited_unread, unread_followed}
 use Rattle.mail_loop.proofs.turn.follow.Goals as goal
-
-pub returns-in-Say-clause-turn : goal.returns-in-Say-clause-turn
-returns-in-Say-clause-turn g c =
-    let speech = g.S.Speaks.speech in
-    let desk = c.args.desk.now in
-    let d = c.args.session.now in
-    let old = c.args.reply.now in
-    let new = c.say.new.reply in
-    let f : Hindrance → Turn g.row.S.Denot = λ h. under h c.args.at desk.kept (λ service. followed speech service desk.kept c.args.out d) in
-    lifted_turn (HaveSealed g.D.Disk.told desk desk) f old desk.kept d new (unsealed g.D.Disk.told c.seals_join.ensures.nothing desk)
-    (said_turn c.in-Say.text c.bytes.result.now desk.kept d old new f c.bytes.ensures.value
-    (ap (λ (o : Out). followed speech (service c.args.at desk.kept) desk.kept o d) c.in-Say.is) refl c.say.ensures)
-
-pub returns-in-Bye-clause-turn : goal.returns-in-Bye-clause-turn
-returns-in-Bye-clause-turn g c =
-    let speech = g.S.Speaks.speech in
-    let desk = c.args.desk.now in
-    let d = c.args.session.now in
-    let old = c.args.reply.now in
-    let new = c.say-in-Bye.new.reply in
-    let f : Hindrance → Turn g.row.S.Denot = λ h. under h c.args.at desk.kept (λ service. followed speech service desk.kept c.args.out d) in
-    lifted_turn (HaveSealed g.D.Disk.told desk desk) f old desk.kept d new (unsealed g.D.Disk.told c.seals_join.ensures.nothing desk)
-    (bye_turn c.in-Bye.text c.bytes-in-Bye.result.now desk.kept d old new f c.bytes-in-Bye.ensures.value
-    (ap (λ (o : Out). followed speech (service c.args.at desk.kept) desk.kept o d) c.in-Bye.is) refl c.say-in-Bye.ensures)
 
 pub returns-in-Read-clause-turn : goal.returns-in-Read-clause-turn
 returns-in-Read-clause-turn g c =
@@ -40,8 +12,15 @@ returns-in-Read-clause-turn g c =
     let new = c.read.new in
     out_turn g.S.Speaks.speech (HaveSealed g.D.Disk.told desk new.desk) c.args.at desk.kept new.desk.kept c.args.out (Read c.in-Read.bodies) c.args.session.now new.session c.args.reply.now new.reply c.in-Read.is c.read.ensures.turn
 
-pub returns-in-Submit-clause-turn : goal.returns-in-Submit-clause-turn
-returns-in-Submit-clause-turn g c =
+-- what wants no texts
+pub go_on-requires-clause-awaited : goal.go_on-requires-clause-awaited
+go_on-requires-clause-awaited g c = awaited_unread g.S.Speaks.speech c.args.out c.args.session.now (λ bodies is. c.in_default.not-Read bodies is) c.requires.awaited
+
+pub returns-in_default-clause-turn : goal.returns-in_default-clause-turn
+returns-in_default-clause-turn g c =
     let desk = c.args.desk.now in
-    let new = c.submit.new in
-    out_turn g.S.Speaks.speech (HaveSealed g.D.Disk.told desk new.desk) c.args.at desk.kept new.desk.kept c.args.out (Submit c.in-Submit.ask) c.args.session.now new.session c.args.reply.now new.reply c.in-Submit.is c.submit.ensures.turn
+    let new = c.go_on.new in
+    unread_followed g.S.Speaks.speech (HaveSealed g.D.Disk.told desk new.desk) c.args.at desk.kept new.desk.kept c.args.out c.args.session.now new.session c.args.reply.now new.reply (λ bodies is. c.in_default.not-Read bodies is) c.go_on.ensures.turn
+
+pub returns-in_default-clause-still : goal.returns-in_default-clause-still
+returns-in_default-clause-still g c = λ is. let same = c.go_on.ensures.still is in (ap (λ (h : Lasting g.row.D.Denot). h.kept) same.0, same.1)

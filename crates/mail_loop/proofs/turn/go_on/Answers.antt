@@ -1,10 +1,10 @@
-use Rattle.std.proofs.Common.{refl, ap, subst}
+use Rattle.std.proofs.Common.{List, ℕ, false, true≢false, refl, ap, subst, sym, ◌∙◌}
 use Rattle.mail_loop.specs.declared.out.Out.{Out}
 use Rattle.mail_loop.specs.declared.out.Out.TheVariants.{Submit}
 use Rattle.mail_loop.specs.Asked.{HaveSealed}
 use Rattle.mail_loop.specs.Turn.{Turn}
-use Rattle.mail_loop.specs.Session.{submits}
-use Rattle.mail_loop.specs.Took.{IsAwaitedLast}
+use Rattle.mail_loop.specs.Session.{is_said, submits}
+use Rattle.mail_loop.specs.Took.{Adds, IsAwaitedLast, IsTold}
 use Rattle.mail_loop.specs.Hindrance.{Hindrance, under, service}
 use Rattle.mail_loop.proofs.Dialogs.{bye_turn, submits_turn, said_turn}
 use Rattle.mail_loop.proofs.Sealed.{unsealed}
@@ -40,6 +40,21 @@ returns-clause-turn g c =
     let desk = c.args.desk.now in
     let new = c.submit.new in
     submits_turn g.S.Speaks.speech (HaveSealed g.D.Disk.told desk new.desk) c.args.at desk.kept new.desk.kept c.args.out (Submit c.in-Submit.ask) c.args.session.now new.session c.args.reply.now new.reply c.in-Submit.is c.submit.ensures.turn
+
+-- what is only said changes nothing else
+pub returns-in-Say-clause-still : goal.returns-in-Say-clause-still
+returns-in-Say-clause-still g c = λ is.
+    let told = subst (λ (b : List ℕ). Adds b false c.args.reply.now c.say.new.reply) c.bytes.ensures.value c.say.ensures in
+    (refl, refl, subst (λ (o : Out). IsTold o c.args.reply.now c.say.new.reply) (sym c.in-Say.is) told)
+
+pub returns-in-Bye-clause-still : goal.returns-in-Bye-clause-still
+returns-in-Bye-clause-still g c = λ is. absurd (true≢false (sym is ∙ ap is_said c.in-Bye.is))
+
+pub returns-in-Read-clause-still : goal.returns-in-Read-clause-still
+returns-in-Read-clause-still g c = λ is. absurd (true≢false (sym is ∙ ap is_said c.in-Read.is))
+
+pub returns-clause-still : goal.returns-clause-still
+returns-clause-still g c = λ is. absurd (true≢false (sym is ∙ ap is_said c.in-Submit.is))
 
 -- it wants no texts again
 pub returns-in-Read-clause-free : goal.returns-in-Read-clause-free

@@ -1,37 +1,38 @@
-use Rattle.std.proofs.Common.{Option, subst, ◌∙◌}
-use Rattle.verb_core.specs.declared.ask.Ask.{Ask}
+use Rattle.std.proofs.Common.{ap, ◌∙◌}
+use Rattle.mail_loop.specs.declared.reply.Reply.{Reply}
 use Rattle.mail_loop.specs.TurnCounts.{none_counted}
 use Rattle.mail_loop.specs.Asked.{HaveSealed}
-use Rattle.mail_loop.specs.Took.{SettlesOrAsks}
-use Rattle.mail_loop.proofs.Dialogs.{asked_further, asked_turn, due_if_some, free_if_none, last_after, pursued_concludes, sealed_before, settles_if_none}
+use Rattle.mail_loop.proofs.Dialogs.{asked_further, asked_turn, asks_further, asks_none, done_concludes, due_if_some, free_if_none, last_after, pursued_concludes, sealed_before, settles_if_none}
 use Rattle.mail_loop.proofs.Sealed.{chained_after, still_open}
 use Rattle.mail_loop.proofs.Taken.{none_gone_of}
 use Rattle.mail_loop.proofs.turn.submit.Goals as goal
 
 pub returns-clause-house : goal.returns-clause-house
-returns-clause-house g c = c.submit_further.ensures.house ∙ c.ask_desk-outcome.ensures.house
+returns-clause-house g c = c.ask_desk-last.ensures.house ∙ c.ask_desk-outcome.ensures.house
 
-pub submit_further-requires-clause-due : goal.submit_further-requires-clause-due
-submit_further-requires-clause-due g c = (due_if_some g.S.Speaks.speech c.settle.new.session c.settle.result c.in-Some.further c.in-Some.is c.settle.ensures.next).0
+pub ask_desk-last-requires-clause-user : goal.ask_desk-last-requires-clause-user
+ask_desk-last-requires-clause-user g c = (due_if_some g.S.Speaks.speech c.settle.new.session c.settle.result c.in-Some.further c.in-Some.is c.settle.ensures.next).1
 
-pub submit_further-requires-clause-user : goal.submit_further-requires-clause-user
-submit_further-requires-clause-user g c = (due_if_some g.S.Speaks.speech c.settle.new.session c.settle.result c.in-Some.further c.in-Some.is c.settle.ensures.next).1
-
-pub submit_further-requires-clause-last : goal.submit_further-requires-clause-last
-submit_further-requires-clause-last g c =
+pub ask_desk-last-requires-clause-sealed : goal.ask_desk-last-requires-clause-sealed
+ask_desk-last-requires-clause-sealed g c =
     let submit = c.ask_desk-outcome in
-    let asks = subst (λ (o : Option Ask). SettlesOrAsks g.S.Speaks.speech submit.result submit.new.desk.kept c.args.session.now submit.new.reply c.settle.new.session c.settle.new.reply o) c.in-Some.is c.settle.ensures.settled in
-    last_after g.S.Speaks.speech submit.new.desk.kept c.args.session.now c.settle.new.session submit.result c.in-Some.further c.requires.due asks.0
-
-pub submit_further-requires-clause-sealed : goal.submit_further-requires-clause-sealed
-submit_further-requires-clause-sealed g c =
-    let submit = c.ask_desk-outcome in
+    let speech = g.S.Speaks.speech in
     let told = g.D.Disk.told in
     let kept = c.args.desk.now.kept in
-    let asks = subst (λ (o : Option Ask). SettlesOrAsks g.S.Speaks.speech submit.result submit.new.desk.kept c.args.session.now submit.new.reply c.settle.new.session c.settle.new.reply o) c.in-Some.is c.settle.ensures.settled in
+    let d = c.args.session.now in
+    let e = c.settle.new.session in
+    let asks = asks_further speech submit.result submit.new.desk.kept d submit.new.reply e c.settle.new.reply c.settle.result c.in-Some.further c.in-Some.is c.settle.ensures.settled in
     still_open told c.args.desk.now submit.new.desk none_counted c.requires.sealed
-    (sealed_before g.S.Speaks.speech (HaveSealed told c.args.desk.now submit.new.desk) c.args.at kept submit.new.desk.kept (g.S.Speaks.speech.user c.args.session.now) c.args.ask c.in-Some.further c.args.session.now c.settle.new.session submit.result
-    c.requires.due submit.ensures.did asks.0)
+    (sealed_before speech (HaveSealed told c.args.desk.now submit.new.desk) c.args.at kept submit.new.desk.kept (speech.user d) c.args.ask c.in-Some.further d e submit.result c.requires.due submit.ensures.did asks.0)
+
+pub settle-none-requires-clause-due : goal.settle-none-requires-clause-due
+settle-none-requires-clause-due g c = (due_if_some g.S.Speaks.speech c.settle.new.session c.settle.result c.in-Some.further c.in-Some.is c.settle.ensures.next).0
+
+pub settle-none-requires-clause-stays : goal.settle-none-requires-clause-stays
+settle-none-requires-clause-stays g c =
+    let submit = c.ask_desk-outcome in
+    let asks = asks_further g.S.Speaks.speech submit.result submit.new.desk.kept c.args.session.now submit.new.reply c.settle.new.session c.settle.new.reply c.settle.result c.in-Some.further c.in-Some.is c.settle.ensures.settled in
+    ap (λ (r : Reply). r.closes) c.ask_desk-last.ensures.noted ∙ ap (λ (r : Reply). r.closes) asks.1 ∙ ap (λ (r : Reply). r.closes) submit.ensures.noted ∙ c.requires.stays
 
 pub returns-in-None-clause-free : goal.returns-in-None-clause-free
 returns-in-None-clause-free g c = free_if_none g.S.Speaks.speech c.settle.new.session c.settle.result c.in-None.is c.settle.ensures.next
@@ -46,18 +47,39 @@ returns-in-None-clause-turn g c =
     c.args.reply.now submit.new.reply c.settle.new.reply _ (pursued_concludes speech kept d) c.requires.due (none_gone_of kept) submit.ensures.noted submit.ensures.did
     (settles_if_none speech submit.new.desk.kept d c.settle.new.session submit.result submit.new.reply c.settle.new.reply c.settle.result c.in-None.is c.settle.ensures.settled)
 
+-- a further ask leads to no other
+pub returns-clause-free : goal.returns-clause-free
+returns-clause-free g c =
+    let submit = c.ask_desk-outcome in
+    let last = c.ask_desk-last in
+    let new = c.settle-none.new in
+    let speech = g.S.Speaks.speech in
+    let d = c.args.session.now in
+    let e = c.settle.new.session in
+    let asks = asks_further speech submit.result submit.new.desk.kept d submit.new.reply e c.settle.new.reply c.settle.result c.in-Some.further c.in-Some.is c.settle.ensures.settled in
+    free_if_none speech new.session c.settle-none.result
+    (asks_none speech last.new.desk.kept e new.session last.result last.new.reply new.reply c.settle-none.result (last_after speech submit.new.desk.kept d e submit.result c.in-Some.further c.requires.due asks.0) c.settle-none.ensures.settled)
+    c.settle-none.ensures.next
+
 pub returns-clause-turn : goal.returns-clause-turn
 returns-clause-turn g c =
     let submit = c.ask_desk-outcome in
-    let further = c.submit_further.new in
+    let last = c.ask_desk-last in
+    let new = c.settle-none.new in
     let speech = g.S.Speaks.speech in
     let told = g.D.Disk.told in
-    let kept = c.args.desk.now.kept in
+    let first = c.args.desk.now in
     let middle = submit.new.desk in
     let d = c.args.session.now in
     let e = c.settle.new.session in
-    let asks = subst (λ (o : Option Ask). SettlesOrAsks speech submit.result middle.kept d submit.new.reply e c.settle.new.reply o) c.in-Some.is c.settle.ensures.settled in
-    asked_further speech (HaveSealed told c.args.desk.now middle) (HaveSealed told middle further.desk) (HaveSealed told c.args.desk.now further.desk) c.args.at kept middle.kept further.desk.kept
-    c.args.ask c.in-Some.further d e further.session submit.result c.args.reply.now c.settle.new.reply further.reply c.requires.due
-    (λ first failed r more. chained_after told c.seals_join.ensures.then c.args.desk.now middle further.desk failed r first more)
-    (asks.1 ∙ submit.ensures.noted) submit.ensures.did asks.0 c.submit_further.ensures.turn
+    let further = c.in-Some.further in
+    let asks = asks_further speech submit.result middle.kept d submit.new.reply e c.settle.new.reply c.settle.result further c.in-Some.is c.settle.ensures.settled in
+    let due = (due_if_some speech e c.settle.result further c.in-Some.is c.settle.ensures.next).0 in
+    let none = asks_none speech last.new.desk.kept e new.session last.result last.new.reply new.reply c.settle-none.result (last_after speech middle.kept d e submit.result further c.requires.due asks.0) c.settle-none.ensures.settled in
+    asked_further speech (HaveSealed told first middle) (HaveSealed told middle last.new.desk) (HaveSealed told first last.new.desk) c.args.at first.kept middle.kept last.new.desk.kept
+    c.args.ask further d e new.session submit.result c.args.reply.now c.settle.new.reply new.reply c.requires.due
+    (λ first_seals failed r more. chained_after told c.seals_join.ensures.then first middle last.new.desk failed r first_seals more)
+    (asks.1 ∙ submit.ensures.noted) submit.ensures.did asks.0
+    (asked_turn speech (HaveSealed told middle last.new.desk) c.args.at middle.kept last.new.desk.kept further e new.session last.result
+    c.settle.new.reply last.new.reply new.reply _ (done_concludes speech middle.kept e) due (none_gone_of middle.kept) last.ensures.noted last.ensures.did
+    (settles_if_none speech last.new.desk.kept e new.session last.result last.new.reply new.reply c.settle-none.result none c.settle-none.ensures.settled))
