@@ -10,7 +10,7 @@ ghost use Rattle.verb_core.specs.Names.{inbox};
 ghost use Rattle.mail_loop.specs.Afterwards.{gone_between};
 ghost use Rattle.mail_loop.specs.Asked.{HaveSealed};
 ghost use Rattle.mail_loop.specs.Session.{is_home};
-ghost use Rattle.mail_loop.specs.Took.{Submits, is_refused, taken_by, taken_of};
+ghost use Rattle.mail_loop.specs.Took.{Submits, is_refused, taken_by};
 
 use crate::gone::Gone;
 use crate::reply::Reply;
@@ -86,32 +86,8 @@ fn note_deleted(alloc: Global, gone: &mut Gone, user: User, name: &Name) -> Resu
     gone.push(BoxId { user, name })
 }
 
-/// Notes the mailboxes that a user's ask takes away, of those that there are. That of INBOX is there again.
+/// Notes the mailboxes that an ask takes away, of those that there are. That of INBOX is there again.
 #[tactic(auto, using(crate::proofs::Taken::all_stay))]
-fn note_of(
-    alloc: Global,
-    gone: &mut Gone,
-    rows: &[(BoxId, u32)],
-    user: User,
-    ask: &Ask,
-) -> Result<(), NoMemory>
-    ensures ok { OnOk result (gone.new ≡ gone.old ++ taken_of user ask.now (map (λ (r : TheBoxId × ℕ). r.0) rows.now)) }
-    ensures err { OnErr result (take (length gone.old) gone.new ≡ gone.old) }
-{
-    match ask {
-        Ask::Delete { mailbox } => note_deleted(alloc, gone, user, mailbox),
-        Ask::Rename { mailbox, target } => {
-            if is_inbox(mailbox) || target.bytes().is_empty() {
-                Ok(())
-            } else {
-                note_renamed(alloc, gone, rows, user, mailbox)
-            }
-        }
-        _ => Ok(()),
-    }
-}
-
-/// Notes the mailboxes that an ask takes away, of those that there are.
 fn note(
     alloc: Global,
     gone: &mut Gone,
@@ -122,9 +98,19 @@ fn note(
     ensures ok { OnOk result (gone.new ≡ gone.old ++ taken_by by ask.now (map (λ (r : TheBoxId × ℕ). r.0) rows.now)) }
     ensures err { OnErr result (take (length gone.old) gone.new ≡ gone.old) }
 {
-    match by {
-        Some(user) => note_of(alloc, gone, rows, user, ask),
-        None => Ok(()),
+    let Some(user) = by else {
+        return Ok(());
+    };
+    match ask {
+        Ask::Delete { mailbox } => note_deleted(alloc, gone, user, mailbox),
+        Ask::Rename { mailbox, target } => {
+            if is_inbox(mailbox) || target.bytes().is_empty() {
+                Ok(())
+            } else {
+                note_renamed(alloc, gone, rows, user, mailbox)
+            }
+        }
+        _ => Ok(()),
     }
 }
 
