@@ -60,7 +60,6 @@ enum Kind {
 }
 
 /// The connection that an event is about, and the event's moment.
-#[derive(Clone, Copy)]
 pub struct Occasion {
     pub conn: u32,
     pub at: u64,

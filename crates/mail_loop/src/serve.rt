@@ -55,7 +55,7 @@ use undo_base::{LAST_MOMENT, NoMemory};
 use undo_outside::{Disk, Event, Fault, Gate, Link, Role, What};
 
 /// Why serving ended before the end.
-#[derive(Clone, Copy, Debug, PartialEq, Eq, Error)]
+#[derive(Clone, Copy, Debug, Error)]
 pub enum ServeFault {
     /// `next` of the link failed.
     #[error("link fault")]
