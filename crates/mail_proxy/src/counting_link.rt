@@ -11,7 +11,7 @@ use undo_base::{NoMemory, Numbers};
 use undo_outside::{Event, Events, Fault, Link, LinkFault, LinkNotes, MemLink};
 
 /// Gives stated events and `End` after them, keeps its log, and counts the calls that found no memory.
-#[derive(Debug, Drop)]
+#[derive(Drop)]
 pub struct CountingLink {
     link: MemLink,
     out_of_memory: u64,

@@ -71,8 +71,14 @@ fn serve_generated<R: Threads + Sync, D: Disk + Drop, G: Gate>(
     let mut link = CountingLink::new(alloc, events);
     let ended = serve_events(rt, alloc, desk, &mut link, gate, MOST_EVENTS);
     match outcome_over(&link, ended) {
-        Ok(()) => plan_grown(alloc, rounds, desk.counts()),
-        Err(fault) => plan_of(Err(fault), Text::new(alloc)),
+        Ok(()) => {
+            drop(link);
+            plan_grown(alloc, rounds, desk.counts())
+        }
+        Err(fault) => {
+            drop(link);
+            plan_of(Err(fault), Text::new(alloc))
+        }
     }
 }
 

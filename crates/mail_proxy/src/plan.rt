@@ -14,7 +14,7 @@ use undo_base::{NoMemory, Text};
 use undo_outside::{Fault, Sink, SinkFault};
 
 /// The last line of the output.
-#[derive(Clone, Copy, Debug, PartialEq, Eq)]
+#[derive(Clone, Copy)]
 pub enum LastLine {
     Nothing,
     Usage,
@@ -34,7 +34,7 @@ pub enum LastLine {
 }
 
 /// What is to be answered and written: the transcript or the counts, and the last line.
-#[derive(Debug, Drop)]
+#[derive(Drop)]
 pub struct Plan {
     pub status: u8,
     pub body: Text,

@@ -38,8 +38,14 @@ pub fn serve_script<R: Threads + Sync, D: Disk + Drop, G: Gate>(
     let ended = serve_events(rt, alloc, desk, &mut link, gate, MOST_EVENTS);
     let served = outcome_over(&link, ended);
     match transcript(alloc, link.log()) {
-        Ok(transcript) => plan_of(served, transcript),
-        Err(NoMemory) => plan_of(or_out_of_memory(served), Text::new(alloc)),
+        Ok(transcript) => {
+            drop(link);
+            plan_of(served, transcript)
+        }
+        Err(NoMemory) => {
+            drop(link);
+            plan_of(or_out_of_memory(served), Text::new(alloc))
+        }
     }
 }
 
