@@ -4,7 +4,7 @@ use std::alloc::{AllocFailed, Global};
 use undo_base::{NoMemory, Numbers, Text, after, before, read_number};
 
 /// Why nothing is run.
-#[derive(Clone, Copy, Debug)]
+#[derive(Clone, Copy)]
 pub(crate) enum Unasked {
     Word,
     NoMemory,
