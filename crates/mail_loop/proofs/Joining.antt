@@ -1,6 +1,6 @@
 -- What a client that joins leaves.
 use Rattle.std.specs.Prelude.{IfOk}
-use Rattle.std.proofs.Common.{◌≡◌, ℕ, true, false, List, [], ◌∷◌, Option, None, Some, is_some, Ok, Err, Result, refl, ap, subst, sym, ◌∙◌}
+use Rattle.std.proofs.Common.{◌≡◌, ℕ, Bool, true, false, List, [], ◌∷◌, Option, None, Some, is_some, Ok, Err, Result, refl, ap, subst, sym, ◌∙◌}
 use Rattle.std.proofs.lemmas.Map.Views.{All-values-insert_entry}
 use Rattle.std.specs.Ordering.{nat_cmp}
 use Rattle.undo_base.specs.declared.memory.NoMemory.{NoMemory as WantOfMemory}
@@ -12,7 +12,7 @@ use Rattle.undo_outside.specs.declared.event.Role.TheVariants as role
 use Rattle.mail_loop.specs.State.{Seat, Seats, State}
 use Rattle.mail_loop.specs.Roles.{row_of}
 use Rattle.mail_loop.specs.ConsoleTurn.{no_consoles}
-use Rattle.mail_loop.specs.Machine.{Answered, Reply, admitted, ungreeted, with_new_seat}
+use Rattle.mail_loop.specs.Machine.{Answered, Reply, admits, admitted, joins, ungreeted, with_new_seat}
 use Rattle.mail_loop.specs.Did.{Answers, Opens}
 use Rattle.mail_loop.specs.Stands.{AreHome, IsHome}
 use Rattle.mail_loop.specs.Took.{IsNone}
@@ -68,3 +68,16 @@ left_ungreeted {T} a kept es conn reply view (Err e) is none one =
 pub out_of_memory_greeting : (s : State) (conn : ℕ) (seat : Seat) (greeting : Option (List ℕ)) → is_some greeting ≡ true → admitted true s conn seat greeting ≡ ungreeted s conn
 out_of_memory_greeting s conn seat (Some text) is = refl
 out_of_memory_greeting s conn seat None wrong = absurd (let w : false ≡ true = wrong in cc)
+
+-- on a connection that is open nothing is done
+pub ignored_open : {T : Type 0} (seat : Option Seat) (role : Role) (kept : Kept) (es : Seats) (conn : ℕ) (view : T → List Reply) (letters : T) → is_some seat ≡ true → view letters ≡ []
+    → Answers IsNone (joins seat false role (record { kept = kept; seats = es }) conn) kept es view (λ _. false) (Ok letters)
+ignored_open None role kept es conn view letters wrong none = absurd (let w : false ≡ true = wrong in cc)
+ignored_open (Some seat) role kept es conn view letters is none = ((refl, refl, none, refl), (refl, refl), tt)
+
+-- where it is not open the client is admitted
+pub admitted_shut : {T : Type 0} (seat : Option Seat) (no_memory : Bool) (role : Role) (kept : Kept) (es es' : Seats) (conn : ℕ) (view : T → List Reply) (result : Result T WantOfMemory) → is_some seat ≡ false
+    → Answers IsNone (admits no_memory role (record { kept = kept; seats = es }) conn) kept es' view (λ _. false) result
+    → Answers IsNone (joins seat no_memory role (record { kept = kept; seats = es }) conn) kept es' view (λ _. false) result
+admitted_shut None no_memory role kept es es' conn view result is answers = answers
+admitted_shut (Some seat) no_memory role kept es es' conn view result wrong answers = absurd (let w : true ≡ false = wrong in cc)

@@ -1,5 +1,5 @@
 -- The table of connections.
-use Rattle.std.proofs.Common.{◌≡◌, ℕ, Bool, true, false, cond, List, [], ◌∷◌, None, Some, Option, is_some, suc, ◌<◌, ◌≤◌, ◌-◌, length, take, drop, get_or, arith, refl, ap, sym, ◌∙◌}
+use Rattle.std.proofs.Common.{◌≡◌, ℕ, Bool, true, false, cond, List, [], ◌∷◌, suc, ◌<◌, ◌≤◌, ◌-◌, length, take, drop, get_or, arith, refl, ap, sym, ◌∙◌}
 use Rattle.std.proofs.lemmas.List.{take_all}
 use Rattle.std.proofs.lemmas.List.Elements.{All-nil}
 use Rattle.std.proofs.lemmas.Map.Views.{All-map-remove_entry}
@@ -7,9 +7,8 @@ use Rattle.std.specs.BTreeMap.{is_at}
 use Rattle.std.specs.Ordering.{nat_cmp}
 use Rattle.std.specs.Map.{remove_entry, set_value}
 use Rattle.verb_core.specs.declared.conf.House.{House}
-use Rattle.undo_outside.specs.declared.event.Role.{Role}
-use Rattle.mail_loop.specs.State.{Seat, Seats, State}
-use Rattle.mail_loop.specs.Machine.{after_reply, joins, admits, ignored}
+use Rattle.mail_loop.specs.State.{Seat, Seats}
+use Rattle.mail_loop.specs.Machine.{after_reply}
 use Rattle.mail_loop.specs.Stands.{AreHome, IsHome}
 
 -- what is set and then removed was removed
@@ -33,15 +32,6 @@ fewer_left {X} test (e ∷ es) = by_test (test e.0) (fewer_left test es)
         let more : length (e ∷ es) ≡ suc (length es) = refl in
         let left : length (e ∷ remove_entry test es) ≡ suc (length (remove_entry test es)) = refl in
         omega (arith, more, left, less)
-
--- a client joins on a connection that is open, or is not
-pub joins_open : (o : Option Seat) (no_memory : Bool) (role : Role) (s : State) (conn : ℕ) → is_some o ≡ true → joins o no_memory role s conn ≡ ignored s
-joins_open None no_memory role s conn wrong = absurd (let w : false ≡ true = wrong in cc)
-joins_open (Some x) no_memory role s conn is = refl
-
-pub joins_shut : (o : Option Seat) (no_memory : Bool) (role : Role) (s : State) (conn : ℕ) → is_some o ≡ false → joins o no_memory role s conn ≡ admits no_memory role s conn
-joins_shut None no_memory role s conn is = refl
-joins_shut (Some x) no_memory role s conn wrong = absurd (let w : true ≡ false = wrong in cc)
 
 -- a list of none
 pub no_items : {X : Type 0} → (xs : List X) → length xs < 1 → xs ≡ []

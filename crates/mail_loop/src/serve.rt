@@ -111,7 +111,8 @@ fn deliver_all<L: Link>(
             continue;
         }
         link.close(letter.conn)?;
-        connections.remove(&letter.conn);
+        let gone = connections.remove(&letter.conn);
+        drop(gone);
     }
     Ok(())
 }

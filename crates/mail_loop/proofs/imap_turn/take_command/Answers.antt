@@ -1,10 +1,11 @@
-use Rattle.std.proofs.Common.{◌≡◌, Ok, true, refl, sym, subst, ◌∙◌, ◌||◌}
+use Rattle.std.proofs.Common.{◌≡◌, Ok, true, true≢false, refl, sym, subst, ◌∙◌, ◌||◌}
 use Rattle.std.specs.Cmp.{first_so}
+use Rattle.verb_core.specs.declared.conf.House.{House}
 use Rattle.verb_core.specs.Store.{MailStore}
 use Rattle.store_kept.specs.Kept.{Kept, store_of}
 use Rattle.shelf.specs.Notes.{size_of}
 use Rattle.imap_session.specs.declared.dialog.Dialog.{Dialog}
-use Rattle.imap_session.specs.Dialog.{follows_view, is_said, is_view_current, stays_current, without_memory}
+use Rattle.imap_session.specs.Dialog.{follows_view, is_at_home, is_said, is_view_current, stays_current, without_memory}
 use Rattle.mail_loop.specs.declared.out.Out.{Out}
 use Rattle.mail_loop.specs.Asked.{HaveSealed}
 use Rattle.mail_loop.specs.Turn.{Turn}
@@ -21,6 +22,50 @@ use Rattle.mail_loop.proofs.imap_turn.take_command.Goals as goal
 
 pub take_known-requires-clause-current : goal.take_known-requires-clause-current
 take_known-requires-clause-current g c = λ h. subst (λ (s : MailStore). is_view_current s c.args.session.now ≡ true) (sym c.store-store.ensures.value) (c.requires.current h)
+
+pub take_known-requires-clause-house : goal.take_known-requires-clause-house
+take_known-requires-clause-house g c = c.house-house.ensures.sound
+
+pub take_known-requires-clause-valid : goal.take_known-requires-clause-valid
+take_known-requires-clause-valid g c = c.store-store.ensures.valid
+
+pub take_known-requires-clause-home : goal.take_known-requires-clause-home
+take_known-requires-clause-home g c = subst (λ (h : House). is_at_home h c.args.session.now ≡ true) (sym c.house-house.ensures.value) c.requires.home
+
+pub take_known-requires-clause-free : goal.take_known-requires-clause-free
+take_known-requires-clause-free g c = c.requires.free
+
+pub follow-requires-clause-stays : goal.follow-requires-clause-stays
+follow-requires-clause-stays g c = c.requires.stays
+
+pub follow-requires-clause-home : goal.follow-requires-clause-home
+follow-requires-clause-home g c = subst (λ (h : House). is_at_home h c.take_known.new.self ≡ true) c.house-house.ensures.value c.take_known.ensures.stays
+
+pub follow-requires-clause-sealed : goal.follow-requires-clause-sealed
+follow-requires-clause-sealed g c = c.requires.sealed
+
+pub returns-in-Ok-clause-free : goal.returns-in-Ok-clause-free
+returns-in-Ok-clause-free g c = c.follow.ensures.free
+
+pub returns-in-Ok-clause-home : goal.returns-in-Ok-clause-home
+returns-in-Ok-clause-home g c = c.follow.ensures.home
+
+pub returns-in-Ok-clause-house : goal.returns-in-Ok-clause-house
+returns-in-Ok-clause-house g c = c.follow.ensures.house
+
+pub returns-in-Err-clause-free : goal.returns-in-Err-clause-free
+returns-in-Err-clause-free g c = c.answer.ensures.free
+
+pub returns-in-Err-clause-home : goal.returns-in-Err-clause-home
+returns-in-Err-clause-home g c =
+    let house = c.args.desk.now.kept.house in
+    c.answer.ensures.home house (subst (λ (h : House). is_at_home h c.take_known.new.self ≡ true) c.house-house.ensures.value c.take_known.ensures.stays)
+
+pub returns-in-Err-clause-house : goal.returns-in-Err-clause-house
+returns-in-Err-clause-house g c = refl
+
+pub returns-in-Err-clause-current : goal.returns-in-Err-clause-current
+returns-in-Err-clause-current g c = λ wrong. absurd (true≢false (sym wrong))
 
 pub follow-requires-clause-awaited : goal.follow-requires-clause-awaited
 follow-requires-clause-awaited g c = subst (λ (o : Out). IsNext imap_speech o c.take_known.new.self) (sym c.of_imap.ensures) (next_of c.in-Ok.out c.take_known.new.self c.in-Ok.ensures.next)

@@ -33,11 +33,11 @@ loop-letter-preserved g c =
     let letter = c.letter-item.result in
     let more = drop_more letters l.letter-index letter (omega (arith, tests, c.loop-letter-test.true)) in
     record {
-      home = λ house held. subst (λ (es : Seats). AreHome house es) (sym c.remove.ensures.entries) (home_after house false letter.conn l.connections.entries (l.invariant.home house held));
-      sends = sends_on_more (told c.args.link.now) (told l.link) (told c.close.new.self) c.args.connections.now.entries l.connections.entries c.remove.new.self.entries
+      home = λ house held. subst (λ (es : Seats). AreHome house es) (sym c.remove-gone.ensures.entries) (home_after house false letter.conn l.connections.entries (l.invariant.home house held));
+      sends = sends_on_more (told c.args.link.now) (told l.link) (told c.close.new.self) c.args.connections.now.entries l.connections.entries c.remove-gone.new.self.entries
           (letter_of letter) (replies_of (drop l.letter-index letters)) (replies_of (drop (l.letter-index + 1) letters)) (replies_of letters) false
           (ap replies_of more ∙ ap (λ (q : Letter). letter_of q ∷ replies_of (drop (l.letter-index + 1) letters)) (sym c.letter-item.is))
-          (replied_closed (told l.link) (told c.tell.new.link) (told c.close.new.self) (letter_of letter) c.tell.result c.if-tell.false c.tell.ensures c.in_ok-close.ensures) c.remove.ensures.entries l.invariant.sends;
+          (replied_closed (told l.link) (told c.tell.new.link) (told c.close.new.self) (letter_of letter) c.tell.result c.if-tell.false c.tell.ensures c.in_ok-close.ensures) c.remove-gone.ensures.entries l.invariant.sends;
     }
 
 pub returns-clause-sends : goal.returns-clause-sends
