@@ -128,7 +128,8 @@ fn enter(
     ensures home { (house : TheHouse) → AreHome house connections.old.entries → AreHome house connections.new.entries }
     ensures opens { Opens conn (row_of role).fresh (replies_of letters.items) connections.old.entries connections.new.entries (λ replies. replies_of replies.items) result }
 {
-    connections.insert(conn, Connection::fresh(alloc, role))?;
+    let before = connections.insert(conn, Connection::fresh(alloc, role))?;
+    drop(before);
     Ok(letters)
 }
 

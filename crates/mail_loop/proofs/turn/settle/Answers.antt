@@ -6,6 +6,15 @@ use Rattle.mail_loop.specs.Took.{SettlesAgain, is_refused}
 use Rattle.mail_loop.proofs.Dialogs.{due_next, settled_over, settles_or_asks, stamps_rise}
 use Rattle.mail_loop.proofs.turn.settle.Goals as goal
 
+pub take_outcome-requires-clause-valid : goal.take_outcome-requires-clause-valid
+take_outcome-requires-clause-valid g c = c.store.ensures.valid
+
+pub take_outcome-requires-clause-due : goal.take_outcome-requires-clause-due
+take_outcome-requires-clause-due g c = c.requires.due
+
+pub returns-in-Ok-clause-home : goal.returns-in-Ok-clause-home
+returns-in-Ok-clause-home g c = c.take_outcome.ensures.home c.args.desk.now.kept.house c.requires.home
+
 pub take_outcome-requires-clause-rising : goal.take_outcome-requires-clause-rising
 take_outcome-requires-clause-rising g c =
     stamps_rise c.stamps.result.now c.store.result.now.store (store_of c.args.desk.now.kept).boxes c.stamps.ensures.named (ap (λ (s : MailStore). s.boxes) c.store.ensures.value) c.store.ensures.valid.rising
