@@ -7,7 +7,7 @@ use Rattle.std.specs.BTreeMap.{is_at}
 use Rattle.std.specs.Ordering.{nat_cmp}
 use Rattle.std.specs.Map.{remove_entry, set_value}
 use Rattle.verb_core.specs.declared.conf.House.{House}
-use Rattle.mail_loop.specs.State.{Seat, Seats}
+use Rattle.mail_loop.specs.State.{Seats}
 use Rattle.mail_loop.specs.Machine.{after_reply}
 use Rattle.mail_loop.specs.Stands.{AreHome, IsHome}
 

@@ -19,8 +19,8 @@ returns-in-Ok g c =
     (subst (λ (n : Counts). TellsText (grown_text c.args.rounds n) plan.status (output_of plan)) c.counts.ensures c.plan_grown.ensures))
     (λ holds. record { runs = c.serve_events-ended.ensures.runs holds; uids = c.serve_events-ended.ensures.uids holds })
 
-pub returns : goal.returns
-returns g c =
+pub returns-in-Err : goal.returns-in-Err
+returns-in-Err g c =
     let (steps, notes, over, (added, seals, counted), through) = c.serve_events-ended.ensures.serves in
     let last = c.serve_events-ended.new.desk in
     let plan = c.plan_of.result in

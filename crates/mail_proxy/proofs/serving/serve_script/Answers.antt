@@ -29,8 +29,8 @@ returns-in-Ok g c =
       };
     }
 
-pub returns : goal.returns
-returns g c =
+pub returns-in-Err : goal.returns-in-Err
+returns-in-Err g c =
     let (steps, notes, over, (added, seals, counted), through) = c.serve_events-ended.ensures.serves in
     let ended = c.serve_events-ended.result in
     let outcome = c.outcome_over-served.result in
