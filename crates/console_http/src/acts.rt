@@ -18,7 +18,7 @@ use undo_base::{Key, NoMemory};
 use verb_core::{Act, Filter, House, Scope};
 
 /// The word of an act.
-#[derive(Clone, Copy, Debug, PartialEq, Eq)]
+#[derive(Clone, Copy)]
 pub enum Word {
     Alias,
     Unalias,

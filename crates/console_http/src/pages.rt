@@ -19,7 +19,7 @@ use std::alloc::Global;
 use undo_base::NoMemory;
 
 /// A page of the console.
-#[derive(Clone, Copy, Debug, PartialEq, Eq)]
+#[derive(Clone, Copy)]
 pub enum Page {
     Status,
     Timeline,

@@ -53,7 +53,7 @@ pub enum Asked {
 }
 
 /// Why a request is refused: its head, something too large, its route, its JSON; or no memory was found.
-#[derive(Clone, Copy, Debug, PartialEq, Eq)]
+#[derive(Clone, Copy, PartialEq, Eq)]
 pub enum HttpRefused {
     Head,
     Size,

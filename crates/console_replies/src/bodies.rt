@@ -15,7 +15,7 @@ use std::alloc::{AllocError, Global};
 use undo_base::{NoMemory, Text};
 
 /// How many there are of what the desk holds, and the next number.
-#[derive(Clone, Copy, Debug, PartialEq, Eq)]
+#[derive(Clone, Copy)]
 pub struct StatusCounts {
     pub cycles: u32,
     pub items: u32,
@@ -26,7 +26,7 @@ pub struct StatusCounts {
 }
 
 /// The word of a refusal.
-#[derive(Clone, Copy, Debug, PartialEq, Eq)]
+#[derive(Clone, Copy)]
 pub enum ErrorWord {
     Head,
     Json,

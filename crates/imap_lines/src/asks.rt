@@ -14,7 +14,7 @@ use std::alloc::Global;
 use undo_base::{Name, NoMemory, SectionAsk, Sequence, StatusAsk, StatusAsks};
 
 /// An attribute that a FETCH asks for (RFC 3501, section 6.4.5).
-#[derive(Debug, Drop)]
+#[derive(Drop)]
 pub enum FetchAsk {
     Flags,
     Uid,

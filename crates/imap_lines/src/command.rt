@@ -5,7 +5,7 @@ use search_verb::Search;
 use undo_base::{Flags, How, Name, NoMemory, StatusAsks, Text};
 
 /// What a client asks (RFC 3501, section 6). A mailbox is a text, since it may be no name.
-#[derive(Debug, Drop)]
+#[derive(Drop)]
 pub enum ImapWhat {
     Capability,
     Noop,
@@ -85,14 +85,14 @@ pub enum ImapWhat {
 }
 
 /// A command with its tag.
-#[derive(Debug, Drop)]
+#[derive(Drop)]
 pub struct ImapCommand {
     pub tag: Name,
     pub what: ImapWhat,
 }
 
 /// Why lines are no command; the first that holds.
-#[derive(Debug, Drop)]
+#[derive(Drop)]
 pub enum ImapRefused {
     /// The line does not begin with a tag and a space.
     NoTag,

@@ -47,7 +47,7 @@ fn read_heading(line: &[u8]) -> Option<(Verb, bool, &[u8])>
 fn takes_all(verb: Verb) -> bool
     ensures { result ≡ spec.takes_all verb }
 {
-    verb == Verb::Authenticate
+    matches!(verb, Verb::Authenticate)
 }
 
 /// What a verb asks with the arguments that stand in the rest of its line, in the lines that follow and in the literals.

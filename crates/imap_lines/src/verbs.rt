@@ -7,7 +7,7 @@ ghost use Rattle.imap_lines.specs.Verbs as spec;
 use imap_tokens::is_same_word;
 
 /// Commands without arguments.
-#[derive(Clone, Copy, PartialEq, Eq)]
+#[derive(Clone, Copy)]
 pub enum BareVerb {
     Capability,
     Noop,
@@ -18,7 +18,7 @@ pub enum BareVerb {
 }
 
 /// Commands whose argument is a mailbox.
-#[derive(Clone, Copy, PartialEq, Eq)]
+#[derive(Clone, Copy)]
 pub enum MailboxVerb {
     Select,
     Examine,
@@ -29,7 +29,7 @@ pub enum MailboxVerb {
 }
 
 /// What a command begins with.
-#[derive(Clone, Copy, PartialEq, Eq)]
+#[derive(Clone, Copy)]
 pub enum Verb {
     Bare(BareVerb),
     Mailbox(MailboxVerb),

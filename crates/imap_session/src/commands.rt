@@ -16,7 +16,7 @@ ghost use Rattle.imap_session.specs.Words as words;
 ghost use Rattle.imap_session.specs.Dialog.{took};
 ghost use Rattle.imap_session.specs.Dialog as spec;
 
-use crate::dialog::{Awaits, Dialog, Pending, Selected};
+use crate::dialog::{Awaits, Dialog, Pending, Selected, Wanted};
 use crate::out::ImapOut;
 use crate::words::{Answer, Word, push_tagged, tagged};
 use box_store::Store;
@@ -99,6 +99,13 @@ pub(crate) fn follow(
     }
 }
 
+/// Texts are awaited.
+pub(crate) fn wait_for_texts(dialog: &mut Dialog, tag: Name, wanted: Wanted)
+    ensures { dialog.new ≡ spec.awaiting_texts tag wanted dialog.old }
+{
+    dialog.awaits = Awaits::Texts { tag, wanted };
+}
+
 /// The store is asked, and the outcome is awaited.
 pub(crate) fn submit(dialog: &mut Dialog, tag: Name, asked: Ask, pending: Pending) -> ImapOut
     ensures { spec.asks asked tag pending dialog.old ≡ took result dialog.new }
@@ -168,14 +175,11 @@ fn select_named(
 {
     let copy = mailbox.copy(alloc)?;
     let tag = tag.copy(alloc)?;
-    dialog.awaits = Awaits::Outcome {
-        tag,
-        pending: Pending::Select {
-            mailbox: copy,
-            writes,
-        },
+    let pending = Pending::Select {
+        mailbox: copy,
+        writes,
     };
-    Ok(ImapOut::Submit(Ask::Select { mailbox }))
+    Ok(submit(dialog, tag, Ask::Select { mailbox }, pending))
 }
 
 fn begin_select(
@@ -223,16 +227,14 @@ pub(crate) fn select(
 fn submit_expunge(dialog: &mut Dialog, tag: Name, mailbox: Name) -> ImapOut
     ensures { spec.asks (Ask.Expunge mailbox None) tag (Pending.Follow Word.Expunge) dialog.old ≡ took result dialog.new }
 {
-    dialog.awaits = Awaits::Outcome {
-        tag,
-        pending: Pending::Follow {
-            word: Word::Expunge,
-        },
-    };
-    ImapOut::Submit(Ask::Expunge {
+    let asked = Ask::Expunge {
         mailbox,
         only: None,
-    })
+    };
+    let pending = Pending::Follow {
+        word: Word::Expunge,
+    };
+    submit(dialog, tag, asked, pending)
 }
 
 pub(crate) fn expunge(alloc: Global, dialog: &mut Dialog, tag: &Name) -> Result<ImapOut, NoMemory>

@@ -14,7 +14,7 @@ ghost use Rattle.imap_session.specs.Fetching as fetching_spec;
 ghost use Rattle.imap_session.specs.Dialog.{took};
 ghost use Rattle.imap_session.specs.Dialog as spec;
 
-use crate::commands::{say, say_nothing};
+use crate::commands::{say, say_nothing, submit, wait_for_texts};
 use crate::dialog::{Awaits, Dialog, Fetching, Pending, Selected, Wanted};
 use crate::out::{Bodies0, ImapOut};
 use crate::search::search_texts;
@@ -107,18 +107,15 @@ fn submit_fetch(dialog: &mut Dialog, tag: Name, fetching: Fetching, texts: Texts
     let sets_seen = form.sets_seen;
     let shows_body = shows_body(&form.attributes);
     let strict = !form.by_uid;
-    dialog.awaits = Awaits::Outcome {
-        tag,
-        pending: Pending::Fetch { form, rows, texts },
-    };
-    ImapOut::Submit(Ask::Fetch {
+    let asked = Ask::Fetch {
         mailbox,
         keys,
         sets_seen,
         shows_body,
         strict,
         asked: octets,
-    })
+    };
+    submit(dialog, tag, asked, Pending::Fetch { form, rows, texts })
 }
 
 /// The texts are read first, where it needs any.
@@ -134,10 +131,7 @@ fn begin_fetch(
     if bodies.is_empty() {
         submit_fetch(dialog, tag, fetching, Texts::new(alloc))
     } else {
-        dialog.awaits = Awaits::Texts {
-            tag,
-            wanted: Wanted::Fetch(fetching),
-        };
+        wait_for_texts(dialog, tag, Wanted::Fetch(fetching));
         ImapOut::Read(bodies)
     }
 }
@@ -212,9 +206,13 @@ fn miss_texts(
     ensures err { OnErr result (dialog.new ≡ spec.awaiting_texts tag wanted dialog.old) }
 {
     match say(alloc, &tag, fault_answer(fault)) {
-        Ok(out) => Ok(out),
+        Ok(out) => {
+            drop(tag);
+            drop(wanted);
+            Ok(out)
+        }
         Err(NoMemory) => {
-            dialog.awaits = Awaits::Texts { tag, wanted };
+            wait_for_texts(dialog, tag, wanted);
             Err(NoMemory)
         }
     }
@@ -234,10 +232,7 @@ fn fetch_texts(
     match texts.copy(alloc) {
         Ok(texts) => Ok(submit_fetch(dialog, tag, fetching, texts)),
         Err(NoMemory) => {
-            dialog.awaits = Awaits::Texts {
-                tag,
-                wanted: Wanted::Fetch(fetching),
-            };
+            wait_for_texts(dialog, tag, Wanted::Fetch(fetching));
             Err(NoMemory)
         }
     }

@@ -6,8 +6,8 @@ ghost use Rattle.imap_view.specs.Views.{is_in_order};
 ghost use Rattle.imap_session.specs.Dialog.{took};
 ghost use Rattle.imap_session.specs.Dialog as spec;
 
-use crate::commands::say;
-use crate::dialog::{Awaits, Dialog, Pending};
+use crate::commands::{say, submit};
+use crate::dialog::{Dialog, Pending};
 use crate::out::ImapOut;
 use crate::words::Answer;
 use box_store::Store;
@@ -31,17 +31,14 @@ fn submit_store(
 ) -> ImapOut
     ensures { spec.asks (Ask.Store mailbox keys form.how form.flags (not form.by_uid)) tag (Pending.Store form silent rows) dialog.old ≡ took result dialog.new }
 {
-    dialog.awaits = Awaits::Outcome {
-        tag,
-        pending: Pending::Store { form, silent, rows },
-    };
-    ImapOut::Submit(Ask::Store {
+    let asked = Ask::Store {
         mailbox,
         keys,
         how: form.how,
         flags: form.flags,
         strict: !form.by_uid,
-    })
+    };
+    submit(dialog, tag, asked, Pending::Store { form, silent, rows })
 }
 
 /// STORE and UID STORE.

@@ -7,7 +7,7 @@ pub type Bodies0 = Sequence<Body>;
 
 /// What comes of a command: an answer, texts that are to be read, an ask of the store whose outcome is due then, or the last
 /// answer. After that the connection is closed.
-#[derive(Debug, Drop)]
+#[derive(Drop)]
 pub enum ImapOut {
     Say(Text),
     Read(Bodies0),

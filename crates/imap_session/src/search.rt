@@ -12,8 +12,8 @@ ghost use Rattle.imap_session.specs.Words as words;
 ghost use Rattle.imap_session.specs.Dialog.{took};
 ghost use Rattle.imap_session.specs.Dialog as spec;
 
-use crate::commands::{say, tell};
-use crate::dialog::{Awaits, Dialog, Pending, Searching, Selected, Wanted};
+use crate::commands::{say, submit, tell, wait_for_texts};
+use crate::dialog::{Dialog, Pending, Searching, Selected, Wanted};
 use crate::out::{Bodies0, ImapOut};
 use crate::words::{Answer, search_word};
 use box_store::Store;
@@ -565,8 +565,7 @@ fn submit_found(dialog: &mut Dialog, found: Found) -> ImapOut
         asked,
         pending,
     } = found;
-    dialog.awaits = Awaits::Outcome { tag, pending };
-    ImapOut::Submit(asked)
+    submit(dialog, tag, asked, pending)
 }
 
 fn bodies_vec(alloc: Global, rows: &[Message]) -> Result<Vec<Body>, AllocError>
@@ -589,10 +588,7 @@ fn bodies_of(alloc: Global, searching: &Searching) -> Result<Bodies0, NoMemory>
 fn read_first(dialog: &mut Dialog, tag: Name, searching: Searching, bodies: Bodies0) -> ImapOut
     ensures { spec.reads tag (Wanted.Search searching) bodies dialog.old ≡ took result dialog.new }
 {
-    dialog.awaits = Awaits::Texts {
-        tag,
-        wanted: Wanted::Search(searching),
-    };
+    wait_for_texts(dialog, tag, Wanted::Search(searching));
     ImapOut::Read(bodies)
 }
 
@@ -661,10 +657,7 @@ pub(crate) fn search_texts(
     match found_with(alloc, &tag, &searching, texts) {
         Ok(found) => Ok(submit_found(dialog, found)),
         Err(NoMemory) => {
-            dialog.awaits = Awaits::Texts {
-                tag,
-                wanted: Wanted::Search(searching),
-            };
+            wait_for_texts(dialog, tag, Wanted::Search(searching));
             Err(NoMemory)
         }
     }

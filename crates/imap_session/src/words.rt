@@ -7,7 +7,7 @@ use undo_base::{Name, NoMemory, Text};
 use verb_core::Refused;
 
 /// The words of a command, as they are told.
-#[derive(Clone, Copy, Debug, PartialEq, Eq)]
+#[derive(Clone, Copy)]
 pub enum Word {
     Capability,
     Noop,
@@ -36,7 +36,7 @@ pub enum Word {
 }
 
 /// What is told of a command behind its tag.
-#[derive(Clone, Copy, Debug, PartialEq, Eq)]
+#[derive(Clone, Copy)]
 pub enum Answer {
     Done(Word),
     /// A mailbox is selected, for changes or not.

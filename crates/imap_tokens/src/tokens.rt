@@ -12,7 +12,7 @@ use std::alloc::Global;
 use undo_base::{Copies, NoMemory, Sequence, Text};
 
 /// A token. A word has printable bytes other than parentheses and quotation marks.
-#[derive(Debug, Drop)]
+#[derive(Drop)]
 pub enum Token {
     Space,
     Open,
@@ -26,7 +26,7 @@ pub enum Token {
 pub type Tokens = Sequence<Token>;
 
 /// What of a token has come.
-#[derive(Debug, Drop)]
+#[derive(Drop)]
 pub enum Part {
     Between,
     Word(Text),

@@ -9,7 +9,7 @@ use undo_base::{NoMemory, Text};
 use verb_core::Refused;
 
 /// What a client is told in one line (RFC 1939, section 3).
-#[derive(Clone, Copy, Debug, PartialEq, Eq)]
+#[derive(Clone, Copy)]
 pub enum Answer {
     Ready,
     Done,

@@ -11,7 +11,7 @@ use undo_base::{after, before, read_number};
 const MOST_COMMAND: usize = 1022;
 
 /// A keyword that a command begins with.
-#[derive(Clone, Copy, Debug, PartialEq, Eq)]
+#[derive(Clone, Copy)]
 pub enum Keyword {
     User,
     Pass,
@@ -27,7 +27,7 @@ pub enum Keyword {
 }
 
 /// A command, with the numbers of messages and of lines that it names. The argument of USER or PASS stands in its line.
-#[derive(Clone, Copy, Debug, PartialEq, Eq)]
+#[derive(Clone, Copy)]
 pub enum Command {
     User,
     Pass,
@@ -43,7 +43,7 @@ pub enum Command {
 }
 
 /// Why a line is no command: the first of these that holds.
-#[derive(Clone, Copy, Debug, PartialEq, Eq)]
+#[derive(Clone, Copy)]
 pub enum LineRefused {
     Long,
     Unknown,

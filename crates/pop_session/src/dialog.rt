@@ -11,7 +11,7 @@ pub enum Stage {
 }
 
 /// A message whose text is to be told: its octets as they are stored, and for TOP the number of lines.
-#[derive(Clone, Copy, Debug, PartialEq, Eq)]
+#[derive(Clone, Copy)]
 pub struct Wanted {
     pub key: Key,
     pub size: u32,

@@ -21,10 +21,10 @@ ghost use Rattle.pop_session.specs.Dialog.{took};
 ghost use Rattle.pop_session.specs.Dialog as spec;
 
 use crate::answer::Answer;
-use crate::dialog::{Awaits, Dialog, Pending, Stage};
+use crate::dialog::{Dialog, Pending, Stage};
 use crate::maildrop::{Maildrop, messages_of};
 use crate::out::PopOut;
-use crate::transaction::{mail_of, say};
+use crate::transaction::{mail_of, say, submit};
 use box_store::Store;
 use shelf::Shelf;
 use std::alloc::Global;
@@ -134,17 +134,15 @@ fn ask_to_enter(
     requires { inbox ≡ always_inbox }
     ensures { spec.asks (spec.fetch_of keys false) (Pending.Enter user maildrop) dialog.old ≡ took result dialog.new }
 {
-    dialog.awaits = Awaits::Outcome {
-        pending: Pending::Enter { user, maildrop },
-    };
-    PopOut::Submit(Ask::Fetch {
+    let asked = Ask::Fetch {
         mailbox: inbox,
         keys,
         sets_seen: false,
         shows_body: true,
         strict: false,
         asked: 0,
-    })
+    };
+    submit(dialog, asked, Pending::Enter { user, maildrop })
 }
 
 fn enter(

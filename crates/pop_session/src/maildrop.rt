@@ -16,7 +16,7 @@ use undo_base::{Key, Keys, NoMemory, Text};
 use verb_core::Entry;
 
 /// A message: its UID, its key, the octets of its text as it is stored, and whether it is marked as deleted.
-#[derive(Clone, Copy, Debug, PartialEq, Eq)]
+#[derive(Clone, Copy)]
 pub struct Message {
     pub uid: u64,
     pub key: Key,
@@ -25,7 +25,7 @@ pub struct Message {
 }
 
 /// Messages, in order.
-#[derive(Debug, Drop)]
+#[derive(Drop)]
 pub struct Messages {
     list: Vec<Message>,
 }
@@ -40,14 +40,14 @@ impl Model for Messages {
 }
 
 /// INBOX's stamp, and its messages.
-#[derive(Debug, Drop)]
+#[derive(Drop)]
 pub struct Maildrop {
     pub stamp: u32,
     pub messages: Messages,
 }
 
 /// What LIST and UIDL tell of a message.
-#[derive(Clone, Copy, Debug, PartialEq, Eq)]
+#[derive(Clone, Copy)]
 pub enum Detail {
     Octets,
     UniqueId,

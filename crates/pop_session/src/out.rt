@@ -4,7 +4,7 @@ use verb_core::{Ask, Body};
 
 /// What comes of a call of `PopSession`. A `Text` is a whole answer as it is sent (RFC 1939, section 3). It begins with `+OK` or
 /// `-ERR` and ends with CRLF, one of several lines with a line of a dot.
-#[derive(Debug, Drop)]
+#[derive(Drop)]
 pub enum PopOut {
     /// An answer, after which the next line is taken.
     Say(Text),

@@ -12,7 +12,7 @@ use crate::dialog::{Awaits, Dialog, Pending, Stage, Wanted};
 use crate::maildrop::Maildrop;
 use crate::out::PopOut;
 use crate::sending::retrieved;
-use crate::transaction::{say, say_nothing};
+use crate::transaction::{say, say_nothing, submit};
 use crate::update::end;
 use seal_log::ReadFault;
 use std::alloc::Global;
@@ -54,10 +54,7 @@ fn show(
 {
     let ask = fetch_of(alloc, wanted.key)?;
     let answer = retrieved(alloc, wanted.size, wanted.lines, bytes)?;
-    dialog.awaits = Awaits::Outcome {
-        pending: Pending::Tell { answer },
-    };
-    Ok(PopOut::Submit(ask))
+    Ok(submit(dialog, ask, Pending::Tell { answer }))
 }
 
 /// The text can't be had.
@@ -89,6 +86,13 @@ pub(crate) fn hear(
     }
 }
 
+/// The outcome of what was asked is still awaited.
+fn wait_for_outcome(dialog: &mut Dialog, pending: Pending)
+    ensures { dialog.new ≡ spec.awaiting pending dialog.old }
+{
+    dialog.awaits = Awaits::Outcome { pending };
+}
+
 /// The maildrop is entered. Where there is no memory for the answer the outcome is still due.
 fn entered(
     alloc: Global,
@@ -106,9 +110,7 @@ fn entered(
             Ok(out)
         }
         Err(NoMemory) => {
-            dialog.awaits = Awaits::Outcome {
-                pending: Pending::Enter { user, maildrop },
-            };
+            wait_for_outcome(dialog, Pending::Enter { user, maildrop });
             Err(NoMemory)
         }
     }
@@ -118,13 +120,11 @@ fn entered(
 fn marked(dialog: &mut Dialog, mailbox: Name, keys: Keys) -> PopOut
     ensures { spec.done (Pending.Mark mailbox keys) dialog.old ≡ took result dialog.new }
 {
-    dialog.awaits = Awaits::Outcome {
-        pending: Pending::Remove,
-    };
-    PopOut::Submit(Ask::Expunge {
+    let asked = Ask::Expunge {
         mailbox,
         only: Some(keys),
-    })
+    };
+    submit(dialog, asked, Pending::Remove)
 }
 
 /// The marked messages are removed. Where there is no memory for the answer the outcome is still due.
@@ -135,9 +135,7 @@ fn removed(alloc: Global, dialog: &mut Dialog) -> Result<PopOut, NoMemory>
     match end(alloc, dialog, Answer::Closing) {
         Ok(out) => Ok(out),
         Err(NoMemory) => {
-            dialog.awaits = Awaits::Outcome {
-                pending: Pending::Remove,
-            };
+            wait_for_outcome(dialog, Pending::Remove);
             Err(NoMemory)
         }
     }

@@ -18,13 +18,13 @@ ghost use Rattle.pop_session.specs.Dialog.{took};
 ghost use Rattle.pop_session.specs.Dialog as spec;
 
 use crate::answer::{Answer, write_answer};
-use crate::dialog::{Awaits, Dialog, Stage, Wanted};
+use crate::dialog::{Awaits, Dialog, Pending, Stage, Wanted};
 use crate::maildrop::{Detail, Maildrop, Message, detail_answer, listing};
 use crate::out::PopOut;
 use box_store::Store;
 use std::alloc::Global;
 use undo_base::{Key, Name, NoMemory, Text, User};
-use verb_core::{Body, Entry, inbox_name};
+use verb_core::{Ask, Body, Entry, inbox_name};
 
 /// An answer, after which the dialog goes on.
 pub(crate) fn say(alloc: Global, answer: Answer) -> Result<PopOut, NoMemory>
@@ -39,6 +39,14 @@ pub(crate) fn say_nothing(alloc: Global) -> PopOut
     ensures { result ≡ PopOut.Say [] }
 {
     PopOut::Say(Text::new(alloc))
+}
+
+/// The store is asked, and the outcome is awaited.
+pub(crate) fn submit(dialog: &mut Dialog, asked: Ask, pending: Pending) -> PopOut
+    ensures { spec.asks asked pending dialog.old ≡ took result dialog.new }
+{
+    dialog.awaits = Awaits::Outcome { pending };
+    PopOut::Submit(asked)
 }
 
 /// What lies in a user's mailbox: nothing where it is missing.

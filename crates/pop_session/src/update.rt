@@ -9,6 +9,7 @@ ghost use Rattle.pop_session.specs.Dialog as spec;
 use crate::answer::{Answer, write_answer};
 use crate::dialog::{Awaits, Dialog, Pending, Stage};
 use crate::out::PopOut;
+use crate::transaction::submit;
 use std::alloc::Global;
 use undo_base::{Copies, Flags, How, Keys, Name, NoMemory};
 use verb_core::{Ask, inbox_name};
@@ -60,10 +61,7 @@ fn keys_left(alloc: Global, stage: &Stage) -> Result<Keys, NoMemory>
 fn ask_to_mark(dialog: &mut Dialog, ask: Ask, mailbox: Name, keys: Keys) -> PopOut
     ensures { spec.asks ask (Pending.Mark mailbox keys) dialog.old ≡ took result dialog.new }
 {
-    dialog.awaits = Awaits::Outcome {
-        pending: Pending::Mark { mailbox, keys },
-    };
-    PopOut::Submit(ask)
+    submit(dialog, ask, Pending::Mark { mailbox, keys })
 }
 
 /// A STORE that adds `\Deleted` to messages.

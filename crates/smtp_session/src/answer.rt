@@ -9,7 +9,7 @@ use verb_core::{Ask, House, Refused};
 
 /// What comes of a line: nothing, an answer, an ask of the store whose outcome is due then, or the last answer, after
 /// which the connection is closed.
-#[derive(Debug, Drop)]
+#[derive(Drop)]
 pub enum SmtpOut {
     Nothing,
     Say(Text),
@@ -18,7 +18,7 @@ pub enum SmtpOut {
 }
 
 /// What an SMTP client is answered (RFC 5321, section 4.2.3).
-#[derive(Clone, Copy, Debug, PartialEq, Eq)]
+#[derive(Clone, Copy)]
 pub enum Answer {
     Ready,
     Host,
