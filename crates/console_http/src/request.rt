@@ -110,6 +110,7 @@ fn alone(route: Route, parts: &[u8]) -> Result<Route, HttpRefused>
     if parts.is_empty() {
         Ok(route)
     } else {
+        drop(route);
         Err(HttpRefused::Route)
     }
 }
@@ -196,18 +197,18 @@ fn read_tried(alloc: Global, house: &House, parts: &[u8], body: &[u8]) -> Result
     said(read_try(alloc, house, body)?.map(|ask| Route::Try(ask)))
 }
 
-/// What a body without a member asks for.
-fn plainly(alloc: Global, route: Route, body: &[u8]) -> Result<Option<Route>, NoMemory>
-    ensures { IfOk result (λ asked. asked ≡ asked_plainly route body.now) }
+/// The upgrade, where a body has no member.
+fn plainly(alloc: Global, body: &[u8]) -> Result<Option<Route>, NoMemory>
+    ensures { IfOk result (λ asked. asked ≡ asked_plainly Route.Upgrade body.now) }
 {
     if body.is_empty() {
-        return Ok(Some(route));
+        return Ok(Some(Route::Upgrade));
     }
     match read_value(alloc, body)? {
         None => Ok(None),
         Some(value) => {
             if has_members(&value, 0) {
-                Ok(Some(route))
+                Ok(Some(Route::Upgrade))
             } else {
                 Ok(None)
             }
@@ -221,7 +222,7 @@ fn read_upgrade(alloc: Global, parts: &[u8], body: &[u8]) -> Result<Route, HttpR
     if !parts.is_empty() {
         return Err(HttpRefused::Route);
     }
-    said(plainly(alloc, Route::Upgrade, body)?)
+    said(plainly(alloc, body)?)
 }
 
 fn read_withdrawn(alloc: Global, parts: &[u8], body: &[u8]) -> Result<Route, HttpRefused>

@@ -2,7 +2,7 @@
 //!
 //! A quoted string may hold bytes above 126 and control bytes other than NUL, CR and LF; an atom may not. An astring that is an
 //! atom may hold `]`.
-ghost use Rattle.std.specs.Prelude.{◌≡◌, ◌∷◌, [], ◌++◌, drop, IfOk, OnOk, option_map, if◌then◌else◌};
+ghost use Rattle.std.specs.Prelude.{◌≡◌, ◌==◌, ◌||◌, ◌∷◌, [], ◌++◌, drop, IfOk, OnOk, option_map, if◌then◌else◌};
 ghost use Rattle.imap_tokens.specs.Tokens.{is_word_byte, is_quoted_byte, started, with_byte, tokens_in, mark_byte, is_space, is_open, is_close, word_of, string_of, pattern_of, quoted_of, literal_of, with_first, tokens_of};
 ghost use Rattle.imap_tokens.specs.Tokens as spec;
 
@@ -35,10 +35,17 @@ pub enum Part {
     Escape(Text),
 }
 
+/// Whether a byte is a parenthesis or a quotation mark.
+fn is_delimiter(byte: u8) -> bool
+    ensures { result ≡ (byte == 40 || byte == 41 || byte == 34) }
+{
+    byte == b'(' || byte == b')' || byte == b'"'
+}
+
 fn is_word_char(byte: u8) -> bool
     ensures { result ≡ is_word_byte byte }
 {
-    33 <= byte && byte <= 126 && !(byte == b'(' || byte == b')' || byte == b'"')
+    33 <= byte && byte <= 126 && !is_delimiter(byte)
 }
 
 fn is_quoted_char(byte: u8) -> bool
