@@ -12,3 +12,4 @@ pub mod Readied
 pub mod Remades
 pub mod Counted
 pub mod Foundings
+pub mod Compared

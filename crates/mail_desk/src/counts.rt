@@ -19,7 +19,7 @@ use verb_core::{BoxId, Item, Items};
 
 /// How many cycles there were, items in the timeline, messages in all mailboxes, the next number, notices among the items,
 /// and users of the house.
-#[derive(Clone, Copy, Debug, PartialEq, Eq)]
+#[derive(Clone, Copy, PartialEq, Eq)]
 pub struct Counts {
     pub cycles: u32,
     pub items: u32,

@@ -22,12 +22,12 @@ use crate::Desk;
 use crate::noting::{note_stored, note_text};
 use crate::numbered::Numbered;
 use crate::ready::make_room;
+use crate::stamps::compare;
 use box_store::{Effect, Store, rows_make_valid_stores};
 use paradox::Report;
 use seal_log::Place;
 use shelf::Shelf;
 use std::alloc::Global;
-use std::cmp::Ordering;
 use std::marker::Model;
 use store_kept::{Base, BaseTexts, Past, Reports};
 use stored_items::StoredItem;
@@ -158,22 +158,11 @@ fn is_one(numbers: &[u32], number: u32) -> bool
 
 // ---- whether stamps name mailboxes
 
-/// How a mailbox lies to another, by user and then by name.
-fn compare(one: &BoxId, other: &BoxId) -> Ordering
-    ensures { result ≡ box_cmp one.now other.now }
-{
-    match one.user.0.cmp(&other.user.0) {
-        Ordering::Less => Ordering::Less,
-        Ordering::Equal => one.name.bytes().cmp(other.name.bytes()),
-        Ordering::Greater => Ordering::Greater,
-    }
-}
-
 /// Whether a stamp is that of a mailbox.
 fn is_of(stamp: &(BoxId, u32), id: &BoxId) -> bool
     ensures { result ≡ eq_by_cmp box_cmp stamp.now.0 id.now }
 {
-    compare(&stamp.0, id).is_eq()
+    compare(stamp, id.user, &id.name).is_eq()
 }
 
 /// The stamps behind the first, where that is of a mailbox.
@@ -253,7 +242,9 @@ fn made_room(
     stored_items_do_alike();
     let stored = StoredItem::copy_of(alloc, item)?;
     let text = item.deed.text_bytes();
-    make_room(alloc, store, timeline, shelf, &stored, text)
+    let made = make_room(alloc, store, timeline, shelf, &stored, text);
+    drop(stored);
+    made
 }
 
 /// What a base has but for its texts: the house, the configuration at first, and the parts of its record.

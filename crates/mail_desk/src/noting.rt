@@ -257,8 +257,13 @@ fn shelved(alloc: Global, rows: &[(Body, Note)]) -> Result<Shelf, NoMemory>
 {
     let mut shelf = Shelf::new(alloc);
     for row in rows {
-        shelf.note_room(1)?;
-        note_row(&mut shelf, *row);
+        match shelf.note_room(1) {
+            Ok(()) => note_row(&mut shelf, *row),
+            Err(NoMemory) => {
+                drop(shelf);
+                return Err(NoMemory);
+            }
+        }
     }
     Ok(shelf)
 }

@@ -101,16 +101,6 @@ impl Numbered {
         }
     }
 
-    /// Makes room for an item more.
-    pub(crate) fn make_room(&mut self) -> Result<(), NoMemory>
-        ensures items { self.new.items ≡ self.old.items }
-        ensures ok { OnOk result (0 < self.new.room) }
-    {
-        self.items.reserve(1)?;
-        self.places.reserve(1)?;
-        Ok(())
-    }
-
     /// Makes room for so many items more.
     pub(crate) fn make_room_for(&mut self, count: usize) -> Result<(), NoMemory>
         ensures items { self.new.items ≡ self.old.items }

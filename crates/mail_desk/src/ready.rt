@@ -83,7 +83,7 @@ pub(crate) fn make_room(
 {
     stored_items_are_formed();
     stored_items_do_alike();
-    timeline.make_room()?;
+    timeline.make_room_for(1)?;
     shelf.note_room(1)?;
     store.ready_effect(alloc, item.item(), text)
 }
@@ -125,9 +125,25 @@ impl Desk {
         ensures ready { IfOk result (λ ready. CanEnter ready self.new) }
     {
         stored_items_do_alike();
-        let stored = StoredItem::copy_of(alloc, &item)?;
-        let made = self.make_ready(alloc, &stored, item.deed.text_bytes())?;
-        Ok(Ready { item, stored, made })
+        let copy = match StoredItem::copy_of(alloc, &item) {
+            Ok(stored) => stored,
+            Err(NoMemory) => {
+                drop(item);
+                return Err(NoMemory);
+            }
+        };
+        match self.make_ready(alloc, &copy, item.deed.text_bytes()) {
+            Ok(made) => Ok(Ready {
+                item,
+                stored: copy,
+                made,
+            }),
+            Err(NoMemory) => {
+                drop(copy);
+                drop(item);
+                Err(NoMemory)
+            }
+        }
     }
 
     /// Makes all room for an item of the next number, which does with a text what it does with its own. The desk stays as it was but

@@ -171,7 +171,12 @@ fn completed(
             shelf,
             later,
         }),
-        Err(NoMemory) => Err(NoMemory),
+        Err(NoMemory) => {
+            drop(left);
+            drop(key);
+            drop(shelf);
+            Err(NoMemory)
+        }
     }
 }
 

@@ -167,7 +167,10 @@ fn renamed(
 fn is_there(store: &Store, user: User, name: &Name) -> bool
     ensures { result ≡ has_row (box_of user name.now) store.now.store.boxes }
 {
-    store.mailbox(user, name).is_some()
+    match store.mailbox(user, name) {
+        Some(_) => true,
+        None => false,
+    }
 }
 
 /// Where a mailbox is left: INBOX stays, and one that has an inferior.

@@ -31,6 +31,7 @@ fn is_row(row: &Row, user: User, name: &Name) -> bool
 }
 
 /// Whether the row stands before that of the user and name.
+#[tactic(auto, using(crate::proofs::Compared::behind_less, crate::proofs::Compared::behind_equal, crate::proofs::Compared::behind_greater))]
 fn is_before(row: &Row, user: User, name: &Name) -> bool
     ensures { result ≡ stands_before (box_of user name.now) row.now }
 {
@@ -42,7 +43,8 @@ fn is_before(row: &Row, user: User, name: &Name) -> bool
 }
 
 /// How a row lies to the mailbox of that user and name.
-fn compare(row: &Row, user: User, name: &Name) -> Ordering
+#[tactic(auto, using(crate::proofs::Compared::then_less, crate::proofs::Compared::then_equal, crate::proofs::Compared::then_greater))]
+pub(crate) fn compare(row: &Row, user: User, name: &Name) -> Ordering
     ensures { result ≡ box_cmp row.now.0 (box_of user name.now) }
 {
     match row.0.user.0.cmp(&user.0) {
