@@ -10,6 +10,7 @@ use Rattle.verb_core.specs.Items.{IsWellFormed, is_own, keys_in}
 use Rattle.verb_core.specs.Step.{step}
 use Rattle.verb_core.specs.Store.{MailStore}
 use Rattle.verb_core.proofs.Joins.{run_joined}
+use Rattle.verb_bytes.specs.declared.journal.JournalRecord.{JournalRecord}
 use Rattle.verb_bytes.specs.declared.journal.JournalRecord.TheVariants.{Verb}
 use Rattle.verb_bytes.specs.Fields.{◌&◌, actor_field, are_in_range, byte_field, moment_field, only_if, u32_field}
 use Rattle.verb_bytes.specs.Spelling.{HasSpelling, deed_fields, item_fields, shown_fields, shown_kind}
@@ -17,7 +18,7 @@ use Rattle.verb_bytes.proofs.Puts.{others_in_range}
 use Rattle.store_kept.specs.Kept.{BaseTexts, IsRun, Kept, performed}
 use Rattle.mail_desk.proofs.Timelines.{all_on, all_weaker}
 use Rattle.desk_journal.specs.Permanence.{RevsBelow}
-use Rattle.desk_journal.specs.Records.{after_record, agree, can_follow, is_formed, is_spelled}
+use Rattle.desk_journal.specs.Records.{after_item, after_record, agree, can_follow, is_formed, is_spelled}
 
 -- the store stays what the items leave
 pub item_runs : (kept : Kept) (i : Item) → IsRun kept → IsRun (performed kept i)
@@ -70,9 +71,12 @@ pub is_formed_as : (house : House) (i : Item) → IsWellFormed house i → is_fo
 is_formed_as house i formed = both_so _ _ (both_so _ _ (both_so _ _ (agree_same (is_some i.by) (is_own i.deed) formed.by) formed.users) (le-leb (length (keys_in i.deed)) 65536 formed.few)) formed.form
 
 -- one of the next number that is well formed, where one is left, and whose record has a spelling
-pub item_stands : (kept : Kept) (i : Item) → is_spelled (Verb i) ≡ true → IsWellFormed kept.house i → i.number ≡ kept.next → kept.next < 4194304 → after_record kept (Verb i) ≡ Some (performed kept i)
-item_stands kept i spelled formed number left =
+pub can_stand : (kept : Kept) (what : JournalRecord) (i : Item) → is_spelled what ≡ true → IsWellFormed kept.house i → i.number ≡ kept.next → kept.next < 4194304 → after_item kept what i ≡ Some (performed kept i)
+can_stand kept what i spelled formed number left =
     ap (λ (b : Bool). cond (b && can_follow kept i) (Some (performed kept i)) None) spelled ∙ ap (λ (b : Bool). cond b (Some (performed kept i)) None) follows
   where
     follows : can_follow kept i ≡ true
     follows = both_so _ _ (both_so _ _ (eq-eqb i.number kept.next number) (lt-ltb kept.next 4194304 left)) (is_formed_as kept.house i formed)
+
+pub item_stands : (kept : Kept) (i : Item) → is_spelled (Verb i) ≡ true → IsWellFormed kept.house i → i.number ≡ kept.next → kept.next < 4194304 → after_record kept (Verb i) ≡ Some (performed kept i)
+item_stands kept i = can_stand kept (Verb i) i

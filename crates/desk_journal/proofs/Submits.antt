@@ -41,12 +41,6 @@ outcome_writes_none log_faults.Disk out old new is = subst (λ (o : SubmitFault)
 outcome_writes_none log_faults.NoMemory out old new is = subst (λ (o : SubmitFault). WritesNone (Err o) old new) (sym is) (λ more. absurd (more refl))
 outcome_writes_none log_faults.Closed out old new is = absurd is
 
--- what was found has these bytes, and the text so far behind their front
-pub found_as : {T W : Type 0} (result : Result T W) (bytes_in : T → List ℕ) (from_in : T → ℕ) (bytes : List ℕ) (from : ℕ) (Q : List ℕ → ℕ → Type 0) → Q bytes from
-    → IfOk result (λ found. bytes_in found ≡ bytes) → IfOk result (λ found. from_in found ≡ from) → IfOk result (λ found. Q (bytes_in found) (from_in found))
-found_as (Ok found) bytes_in from_in bytes from Q holds bytes_are from_is = subst (Q (bytes_in found)) (sym from_is) (subst (λ (b : List ℕ). Q b from) (sym bytes_are) holds)
-found_as (Err why) bytes_in from_in bytes from Q holds bytes_are from_is = tt
-
 -- a record that can stand comes to something
 some_after : (what : JournalRecord) (bytes : List ℕ) (kept next : Kept) → IsRecordTo what bytes kept next → IsSome (after_record kept what)
 some_after what bytes kept next made = subst IsSome (sym made.can_stand) refl

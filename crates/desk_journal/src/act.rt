@@ -3,7 +3,7 @@ ghost use Rattle.std.specs.Prelude.{◌≡◌, ◌<◌, ℕ, List, [], ◌∷◌
 ghost use Rattle.std.specs.List.{list_all};
 ghost use Rattle.verb_core.specs.Deeds.{act_item};
 ghost use Rattle.verb_core.specs.declared.item.Deed.TheVariants.{Act as Acts};
-ghost use Rattle.verb_core.specs.Items.{IsWellFormed, text_in, users_in};
+ghost use Rattle.verb_core.specs.Items.{text_in, users_in};
 ghost use Rattle.verb_core.specs.Store.{is_known};
 ghost use Rattle.verb_bytes.specs.declared.journal.JournalRecord.TheVariants.{Operator};
 ghost use Rattle.verb_bytes.specs.Places.{IsTextAt};
@@ -22,7 +22,7 @@ use crate::seal::{Found, seal_ready};
 use crate::spelling::act_bytes;
 use seal_log::SealFault;
 use std::alloc::Global;
-use undo_base::{END_OF_NUMBERS, LAST_NUMBER, NoMemory, Text};
+use undo_base::{END_OF_NUMBERS, LAST_NUMBER, NoMemory};
 use undo_outside::Disk;
 use verb_bytes::act_text_from;
 use verb_core::{Act, Deed, Item, Shown};
@@ -55,34 +55,6 @@ fn next_number(desk: &mail_desk::Desk) -> Result<u32, ActFault>
     }
 }
 
-/// Makes all room for an act's item, beside the bytes of its record.
-fn with_room(
-    alloc: Global,
-    desk: &mut mail_desk::Desk,
-    item: Item,
-    bytes: Text,
-    from: u32,
-) -> Result<Found, NoMemory>
-    requires formed { IsWellFormed desk.old.kept.house item }
-    requires number { item.number ≡ desk.old.kept.next }
-    requires left { desk.old.kept.next < END_OF_NUMBERS }
-    ensures kept { desk.new.kept ≡ desk.old.kept }
-    ensures notes { desk.new.notes ≡ desk.old.notes }
-    ensures marks { desk.new.marks ≡ desk.old.marks }
-    ensures item { IfOk result (λ found. found.ready.item ≡ item) }
-    ensures bytes { IfOk result (λ found. found.bytes ≡ bytes) }
-    ensures from { IfOk result (λ found. found.from ≡ from) }
-    ensures ready { IfOk result (λ found. CanEnter found.ready desk.new) }
-{
-    match desk.ready_item(alloc, item) {
-        Ok(ready) => Ok(Found { ready, bytes, from }),
-        Err(NoMemory) => {
-            drop(bytes);
-            Err(NoMemory)
-        }
-    }
-}
-
 /// Makes all room for an act, and the bytes of its record.
 fn ready_act(
     alloc: Global,
@@ -102,13 +74,15 @@ fn ready_act(
 {
     let number = desk.next();
     let from = act_text_from(&act);
-    match act_bytes(alloc, number, at, &act) {
-        Ok(bytes) => with_room(alloc, desk, item_of(number, at, act), bytes, from),
+    let bytes = match act_bytes(alloc, number, at, &act) {
+        Ok(bytes) => bytes,
         Err(NoMemory) => {
             drop(act);
-            Err(NoMemory)
+            return Err(NoMemory);
         }
-    }
+    };
+    let ready = desk.ready_item(alloc, item_of(number, at, act))?;
+    Ok(Found { ready, bytes, from })
 }
 
 /// Why an act was not done.
@@ -120,43 +94,6 @@ fn fault_of(fault: SealFault) -> ActFault
         SealFault::Disk => ActFault::Disk,
         SealFault::NoMemory => ActFault::NoMemory,
         SealFault::Closed => ActFault::Closed,
-    }
-}
-
-/// Does an act for which a number is left.
-fn act_numbered<D: Disk>(
-    alloc: Global,
-    journal: &mut Journal<D>,
-    desk: &mut mail_desk::Desk,
-    at: u64,
-    act: Act,
-) -> Result<(), ActFault>
-    requires open { journal.old.closed ≡ false }
-    requires known { IsTrue (list_all (is_known desk.old.kept.house) (users_in (Acts act))) }
-    requires left { desk.old.kept.next < END_OF_NUMBERS }
-    ensures ok { OnOk result (Seals D.told (Operator desk.old.kept.next at act ∷ []) [] (lasting desk.old journal.old) (lasting desk.new journal.new)) }
-    ensures performed { OnOk result (desk.new.kept ≡ performed desk.old.kept (act_item desk.old.kept.next at act)) }
-    ensures noted { TextsNoted journal.old.gate desk.old.notes desk.old.kept → TextsNoted journal.new.gate desk.new.notes desk.new.kept }
-    ensures marked { MarkedBefore journal.old.gate desk.old.marks → MarkedBefore journal.new.gate desk.new.marks }
-    ensures err { IfErr result (λ fault. ActsNone D.told at act (lasting desk.old journal.old) (lasting desk.new journal.new) fault) }
-    ensures same { OnErr result (desk.new.kept ≡ desk.old.kept) }
-    ensures notes { OnErr result (desk.new.notes ≡ desk.old.notes) }
-    ensures marks { OnErr result (desk.new.marks ≡ desk.old.marks) }
-    ensures reads { (D.told journal.new.disk).failed_reads ≡ (D.told journal.old.disk).failed_reads }
-    ensures finds_memory { OnOk result (FindsMemory (D.told journal.old.disk) (D.told journal.new.disk)) }
-    ensures wants { IfErr result (λ fault. ActWants D.told journal.old.disk journal.new.disk fault) }
-    ensures not_closed { IsErrOf result ActFault.Closed → ⊥ }
-{
-    desk.stands();
-    match ready_act(alloc, desk, at, act) {
-        Ok(found) => match seal_ready(alloc, journal, desk, found) {
-            Ok(item) => {
-                drop(item);
-                Ok(())
-            }
-            Err(fault) => Err(fault_of(fault)),
-        },
-        Err(NoMemory) => Err(ActFault::NoMemory),
     }
 }
 
@@ -184,14 +121,22 @@ pub fn act_open<D: Disk>(
     ensures wants { IfErr result (λ fault. ActWants D.told journal.old.disk journal.new.disk fault) }
     ensures not_closed { IsErrOf result ActFault.Closed → ⊥ }
 {
-    match next_number(desk) {
-        Ok(number) => match act_numbered(alloc, journal, desk, at, act) {
-            Ok(()) => Ok(number),
-            Err(fault) => Err(fault),
-        },
+    desk.stands();
+    let number = match next_number(desk) {
+        Ok(number) => number,
         Err(fault) => {
             drop(act);
-            Err(fault)
+            return Err(fault);
         }
+    };
+    match ready_act(alloc, desk, at, act) {
+        Ok(found) => match seal_ready(alloc, journal, desk, found) {
+            Ok(item) => {
+                drop(item);
+                Ok(number)
+            }
+            Err(fault) => Err(fault_of(fault)),
+        },
+        Err(NoMemory) => Err(ActFault::NoMemory),
     }
 }

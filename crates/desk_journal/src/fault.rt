@@ -5,7 +5,7 @@ use undo_base::NoMemory;
 use undo_outside::Failed;
 
 /// Why a desk was not made. Where it is not `NotEmpty` the disk is to be removed.
-#[derive(Clone, Copy, Debug, PartialEq, Eq)]
+#[derive(Clone, Copy)]
 pub enum MakeFault {
     /// The disk has bytes. It stays as it was.
     NotEmpty,
@@ -35,7 +35,7 @@ impl From<Failed> for MakeFault {
 }
 
 /// Why an act was not done.
-#[derive(Clone, Copy, Debug, PartialEq, Eq)]
+#[derive(Clone, Copy, PartialEq, Eq)]
 pub enum ActFault {
     /// No number is left: the next would be this one.
     Numbers { next: u32 },

@@ -36,10 +36,20 @@ fn first_parts(alloc: Global, house: House, conf: Conf) -> Result<(mail_desk::De
     ensures state { OnOk result (state (Format house conf ∷ []) ≡ Some (new_desk house conf)) }
     ensures bytes { IfOk result (λ parts. parts.1 ≡ record_bytes (Format house conf)) }
 {
-    let bytes = house_bytes(alloc, &house, &conf)?;
+    let bytes = match house_bytes(alloc, &house, &conf) {
+        Ok(bytes) => bytes,
+        Err(NoMemory) => {
+            drop(house);
+            drop(conf);
+            return Err(NoMemory);
+        }
+    };
     match mail_desk::Desk::new(alloc, house, conf) {
         Ok(desk) => Ok((desk, bytes)),
-        Err(NoMemory) => Err(NoMemory),
+        Err(NoMemory) => {
+            drop(bytes);
+            Err(NoMemory)
+        }
     }
 }
 

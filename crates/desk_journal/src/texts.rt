@@ -12,7 +12,7 @@ use crate::past::Past;
 use crate::read_texts::read_noted;
 use seal_log::ReadFault;
 use std::alloc::Global;
-use undo_base::{Copies, Text, Texts};
+use undo_base::{Copies, NoMemory, Text, Texts};
 use undo_outside::Disk;
 use verb_core::Body;
 
@@ -21,7 +21,10 @@ fn copied(alloc: Global, text: &Text) -> Result<Text, ReadFault>
     ensures text { IfOk result (λ copy. copy ≡ text.now) }
     ensures memory { IsErrOf result ReadFault.Disk → ⊥ }
 {
-    Ok(text.copy(alloc)?)
+    match text.copy(alloc) {
+        Ok(copy) => Ok(copy),
+        Err(NoMemory) => Err(ReadFault::NoMemory),
+    }
 }
 
 /// The text of a body that has one. It is read where a record has it, and else nothing is.
@@ -91,9 +94,13 @@ fn push_at<D: Disk>(
     ensures due { IsErrOf result ReadFault.Disk → IsTrue (is_recorded desk.now.kept desk.now.kept.timeline body) }
     ensures alone { is_recorded desk.now.kept desk.now.kept.timeline body ≡ false → past.new ≡ past.old }
 {
-    let text = text_at(alloc, past, desk, body)?;
-    texts.push(text)?;
-    Ok(())
+    match text_at(alloc, past, desk, body) {
+        Ok(text) => match texts.push(text) {
+            Ok(()) => Ok(()),
+            Err(NoMemory) => Err(ReadFault::NoMemory),
+        },
+        Err(fault) => Err(fault),
+    }
 }
 
 /// The texts of bodies, in order.
