@@ -1,4 +1,4 @@
-use Rattle.std.proofs.Common.{◌∙◌, ℕ, List, ap, sym}
+use Rattle.std.proofs.Common.{◌∙◌, ℕ, List, ap, sym, arith}
 use Rattle.verb_core.specs.Boxes.{box_of, add_row, drop_row, row_at}
 use Rattle.verb_core.specs.Step.{Boxes}
 use Rattle.verb_core.proofs.BoxLaws.{rising-drop_row}
@@ -21,3 +21,6 @@ returns c =
     ∙ ap (λ (rs : Boxes). add_row (box_of c.args.user c.args.moved.to) c.in-Some.mailbox rs) (c.take_row.ensures.rows ∙ ap (λ (n : List ℕ). drop_row (box_of c.args.user n) c.args.rows.now.items) c.bytes.ensures.value)
     ∙ moved_some c.args.user c.args.moved c.in-Some.mailbox c.args.rows.now.items
     (ap (λ (n : List ℕ). row_at (box_of c.args.user n) c.args.rows.now.items) (sym c.bytes.ensures.value) ∙ sym c.in-Some.ensures.row)
+
+pub put_row-requires-clause-room : goal.put_row-requires-clause-room
+put_row-requires-clause-room c = omega (arith, c.in-Some.ensures.fewer, c.in-Some.ensures.capacity, c.args.rows.now.ok.1)

@@ -1,8 +1,8 @@
-use Rattle.std.proofs.Common.{refl, length}
+use Rattle.std.proofs.Common.{◌<◌, ◌∙◌, [], refl, length, arith}
 use Rattle.verb_core.specs.Boxes.{box_of}
 use Rattle.verb_core.specs.Mailboxes.{put_all}
 use Rattle.mail_rows.proofs.PlaceLaws.{placed, gapped, row_read, row_changed, change_missing}
-use Rattle.box_store.proofs.SpareLaws.{room_there, uids_there}
+use Rattle.box_store.proofs.SpareLaws.{room_there, uids_there, spared}
 use Rattle.box_store.proofs.work.put_into.Goals as goal
 
 pub put_mail-spare-requires-clause-room : goal.put_mail-spare-requires-clause-room
@@ -29,3 +29,14 @@ returns-in_default-clause-rows c =
     change_missing (box_of c.args.user c.args.name.now) c.args.rows.now.items c.in_default.field-0
     (gapped c.args.user c.args.name.now c.args.name.now c.as_slice.result.now c.args.rows.now.items c.in_default.field-0 refl c.as_slice.ensures.value c.in_default.ensures.missing)
     (put_all c.args.mail.now) c.requires.rising
+
+pub lend-spare-requires : goal.lend-spare-requires
+lend-spare-requires c = (spared (box_of c.args.user c.args.name.now, length c.args.mail.now) [] c.args.place c.args.spares.now c.args.rows.now.items c.requires.spare).within
+
+pub give_back-requires-clause-place : goal.give_back-requires-clause-place
+give_back-requires-clause-place c =
+    let within : c.args.place < length c.args.spares.now = (spared (box_of c.args.user c.args.name.now, length c.args.mail.now) [] c.args.place c.args.spares.now c.args.rows.now.items c.requires.spare).within in
+    omega (arith, c.lend-spare.ensures.len)
+
+pub returns-in-Ok-clause-later : goal.returns-in-Ok-clause-later
+returns-in-Ok-clause-later c = c.give_back.ensures.later ∙ c.lend-spare.ensures.later

@@ -1,3 +1,6 @@
+use Rattle.std.proofs.Common.{subst, sym}
+use Rattle.verb_core.specs.declared.item.Item.{Item}
+use Rattle.verb_core.specs.Items.{IsWellFormed}
 use Rattle.std.proofs.lemmas.Result.{IfOk-weaker}
 use Rattle.box_store.proofs.Aimed.{same_answer, same_store}
 use Rattle.box_store.proofs.store.Store.effect_now.Goals as goal
@@ -9,3 +12,6 @@ returns-clause-store c = IfOk-weaker c.effect.result _ _ (λ e does.
 pub returns-clause-shown : goal.returns-clause-shown
 returns-clause-shown c = IfOk-weaker c.effect.result _ _ (λ e does.
     same_answer c.args.self.now.store c.args.item.now c.args.text.now c.in_ok-what.what e.shown c.in_ok-what.ensures.item c.in_ok-what.ensures.sought does.shown) c.effect.ensures
+
+pub effect-requires-clause-formed : goal.effect-requires-clause-formed
+effect-requires-clause-formed c = subst (λ (i : Item). IsWellFormed c.args.self.now.store.house i) (sym c.in_ok-what.ensures.item) c.requires.formed
