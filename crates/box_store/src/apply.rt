@@ -69,7 +69,9 @@ impl Store {
         ensures shown { IfOk result (λ effect. effect.shown ≡ (step_text self.now.store item.now text.now).1) }
     {
         let what = self.aim(alloc, item, text)?;
-        self.effect(alloc, &what)
+        let effect = self.effect(alloc, &what);
+        drop(what);
+        effect
     }
 
     /// What an item does now whose text is given beside it, with room for it.

@@ -224,7 +224,10 @@ fn with_answer(
             deed,
             shown,
         }),
-        Err(_) => Err(NoMemory),
+        Err(_) => {
+            drop(deed);
+            Err(NoMemory)
+        }
     }
 }
 
@@ -274,7 +277,10 @@ impl Store {
         ensures formed { IfOk result (λ item. IsWellFormed self.now.store.house item) }
     {
         match why_not(alloc, self, number, by, &ask, deep) {
-            Some(refused) => Err(refused),
+            Some(refused) => {
+                drop(ask);
+                Err(refused)
+            }
             None => match item_of(alloc, self, number, at, by, ask, deep) {
                 Ok(item) => Ok(item),
                 Err(_) => Err(Refused::NoMemory),

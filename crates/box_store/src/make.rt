@@ -78,7 +78,10 @@ fn with_rest(
 {
     match act_and_shown(alloc, rows, redirected, user, deed) {
         Ok((act, shown)) => Ok(Effect { work, act, shown }),
-        Err(_) => Err(NoMemory),
+        Err(_) => {
+            drop(work);
+            Err(NoMemory)
+        }
     }
 }
 

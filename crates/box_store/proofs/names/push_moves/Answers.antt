@@ -12,7 +12,7 @@ loop-row-preserved c =
     let name : BoxId × Mailbox → List ℕ = λ r. r.0.name in
     let front : List (List ℕ) = map (λ (r : BoxId × Mailbox). r.0.name) (take c.loop-row.row-index c.args.rows.now) in
     let names : map name (take (c.loop-row.row-index + 1) c.args.rows.now) ≡ front ++ c.row-item.result.0.name ∷ [] =
-        map_more name c.args.rows.now c.loop-row.row-index c.row-item.result c.loop-row-test.true ∙ (λ j. front ++ name (sym c.row-item.is j) ∷ []) in
+    map_more name c.args.rows.now c.loop-row.row-index c.row-item.result c.loop-row-test.true ∙ (λ j. front ++ name (sym c.row-item.is j) ∷ []) in
     c.in_ok-push.ensures.ok
     ∙ (λ j. c.loop-row.invariant j ++ c.in_ok-move_of.ensures j ∷ [])
     ∙ append_assoc c.args.moves.now (map f front) (f c.row-item.result.0.name ∷ [])
