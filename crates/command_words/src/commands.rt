@@ -1,7 +1,7 @@
 //! The commands of the program.
 
 /// What the program is to do.
-#[derive(Clone, Copy, Debug, PartialEq, Eq)]
+#[derive(Clone, Copy)]
 pub enum Command {
     /// Formats an empty disk.
     Init,
@@ -32,7 +32,7 @@ pub enum Command {
 }
 
 /// Why words are no command.
-#[derive(Clone, Copy, Debug, PartialEq, Eq)]
+#[derive(Clone, Copy)]
 pub enum WordsRefused {
     /// The words are of no stated shape.
     Usage,

@@ -21,7 +21,7 @@ use undo_base::{NoMemory, Text, after, read_number};
 use undo_outside::{Event, Role, What};
 
 /// What a line of a script says.
-#[derive(Debug, Drop)]
+#[derive(Drop)]
 pub enum ScriptLine {
     Skipped,
     Moment(u64),

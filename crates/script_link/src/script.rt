@@ -13,7 +13,7 @@ use undo_base::{MOST_TEXT, NoMemory};
 use undo_outside::Events;
 
 /// Why a text is no script: its first bad line, from 1.
-#[derive(Clone, Copy, Debug, PartialEq, Eq)]
+#[derive(Clone, Copy)]
 pub enum BadScript {
     Line { line: u32 },
     NoMemory,

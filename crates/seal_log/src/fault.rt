@@ -5,7 +5,7 @@ use undo_base::NoMemory;
 use undo_outside::Failed;
 
 /// Why payloads were not sealed.
-#[derive(Clone, Copy, Debug, PartialEq, Eq)]
+#[derive(Clone, Copy, PartialEq, Eq)]
 pub enum SealFault {
     /// A write or a sync failed in this call. The log is closed from then on.
     Disk,
@@ -22,7 +22,7 @@ pub enum ReadFault {
 }
 
 /// Why a disk was not read as a journal.
-#[derive(Clone, Copy, Debug, PartialEq, Eq)]
+#[derive(Clone, Copy, PartialEq, Eq)]
 pub enum LoadFault {
     /// The disk is empty, or its first gate is not open.
     NotFormatted,

@@ -21,7 +21,7 @@ use undo_base::Text;
 use undo_outside::{Disk, DiskFault, Fault};
 
 /// The end of a journal on a disk: its last gate.
-#[derive(Debug, Drop)]
+#[derive(Drop)]
 pub struct Log {
     gate: u64,
     closed: bool,

@@ -19,7 +19,7 @@ pub(crate) enum Found {
 }
 
 /// What stands behind the payloads of a journal.
-#[derive(Debug, Drop)]
+#[derive(Drop)]
 pub enum End {
     /// A gate that is not open: more can be sealed.
     Whole(Log),
@@ -28,7 +28,7 @@ pub enum End {
 }
 
 /// The payloads of a journal, and how they end.
-#[derive(Debug, Drop)]
+#[derive(Drop)]
 pub struct Survey {
     pub places: Places,
     pub end: End,

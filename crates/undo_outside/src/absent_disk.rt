@@ -5,7 +5,7 @@ ghost use Rattle.undo_outside.specs.Disk.{Measures, ReadsAt, Syncs, WritesAt};
 use crate::{Disk, DiskFault, Failed, Fault};
 
 /// A disk of which each call fails.
-#[derive(Debug, Drop)]
+#[derive(Drop)]
 pub struct AbsentDisk {
     failed_reads: u64,
     failed_writes: u64,

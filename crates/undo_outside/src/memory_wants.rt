@@ -3,7 +3,7 @@ ghost use Rattle.std.specs.Prelude.{◌≡◌, true, false};
 ghost use Rattle.undo_outside.specs.Calls.{RoseOnce};
 
 /// How many calls found no memory, and whether the last one did.
-#[derive(Debug, Drop)]
+#[derive(Drop)]
 pub struct MemoryWants {
     pub calls: u64,
     pub last: bool,
