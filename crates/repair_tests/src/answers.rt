@@ -125,17 +125,39 @@ fn has_each(notices: &Notices, users: usize, bytes: usize) -> bool {
             && told.1.bytes().len() == bytes)
 }
 
+fn few_have_first(alloc: Global) -> Result<bool, Fail> {
+    let notices = made(alloc, 3, 2)?;
+    let has = has_first(&notices, User(0), TWO_LINES);
+    drop(notices);
+    Ok(has)
+}
+
+fn none_have_any(alloc: Global) -> Result<bool, Fail> {
+    let notices = made(alloc, 0, 2)?;
+    let none = notices.is_empty();
+    drop(notices);
+    Ok(none)
+}
+
+/// Whether of so many items of so many users each has a notice of so many bytes.
+fn made_have_each(alloc: Global, count: u32, users: u8, bytes: usize) -> Result<bool, Fail> {
+    let notices = made(alloc, count, users)?;
+    let has = has_each(&notices, usize::from(users), bytes);
+    drop(notices);
+    Ok(has)
+}
+
 // A line has 47 bytes, and what stands before the lines 191.
 #[test]
 fn notices_name_the_broken_items(rt: HostRuntime) -> Result<(), Fail> {
-    let few = made(rt.alloc(), 3, 2)?;
-    assert!(rt; has_first(&few, User(0), TWO_LINES));
-    let many = made(rt.alloc(), 1000, 200)?;
-    assert!(rt; has_each(&many, 200, 191 + 5 * 47));
-    let long = made(rt.alloc(), 1000, 1)?;
-    assert!(rt; has_each(&long, 1, 191 + 1000 * 47));
-    let none = made(rt.alloc(), 0, 2)?;
-    assert!(rt; none.is_empty());
+    let first = few_have_first(rt.alloc())?;
+    let many = made_have_each(rt.alloc(), 1000, 200, 191 + 5 * 47)?;
+    let long = made_have_each(rt.alloc(), 1000, 1, 191 + 1000 * 47)?;
+    let none = none_have_any(rt.alloc())?;
+    assert!(rt; first);
+    assert!(rt; many);
+    assert!(rt; long);
+    assert!(rt; none);
     Ok(())
 }
 
@@ -168,13 +190,20 @@ fn report(alloc: Global) -> Result<Report, Fail> {
 }
 
 fn is_copied(alloc: Global, report: &Report) -> Result<bool, Fail> {
-    Ok(report.copy(alloc)? == *report)
+    let copy = report.copy(alloc)?;
+    let same = copy == *report;
+    drop(copy);
+    Ok(same)
 }
 
 #[test]
 fn reports_are_copied(rt: HostRuntime) -> Result<(), Fail> {
     let report = report(rt.alloc())?;
-    assert_eq!(rt; report.broken.len(), 3);
-    assert!(rt; is_copied(rt.alloc(), &report)?);
+    let broken = report.broken.len();
+    let copied = is_copied(rt.alloc(), &report);
+    drop(report);
+    let copied = copied?;
+    assert!(rt; broken == 3);
+    assert!(rt; copied);
     Ok(())
 }

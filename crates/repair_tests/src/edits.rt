@@ -88,7 +88,9 @@ pub(crate) fn edited(
     point: u32,
 ) -> Result<Result<Edited, EditRefused>, Fail> {
     let ask = ask(alloc, point)?;
-    Ok(edit(alloc, timeline, &ask, 8, AT))
+    let found = edit(alloc, timeline, &ask, 8, AT);
+    drop(ask);
+    Ok(found)
 }
 
 pub(crate) fn are_items(items: &StoredItems, wanted: &[(u32, u32)]) -> bool {
@@ -141,10 +143,34 @@ fn is_point_refused(found: &Result<Edited, EditRefused>, point: u32) -> bool {
     }
 }
 
+/// Whether the cycle from a point repairs the timeline.
+fn repairs(alloc: Global, timeline: &StoredItems, point: u32) -> Result<bool, Fail> {
+    let found = edited(alloc, timeline, point)?;
+    let right = is_right(&found);
+    drop(found);
+    Ok(right)
+}
+
+/// Whether it is refused for its point.
+fn refuses(alloc: Global, timeline: &StoredItems, point: u32) -> Result<bool, Fail> {
+    let found = edited(alloc, timeline, point)?;
+    let refused = is_point_refused(&found, point);
+    drop(found);
+    Ok(refused)
+}
+
+fn repairs_and_refuses(alloc: Global, timeline: &StoredItems) -> Result<(bool, bool), Fail> {
+    let repaired = repairs(alloc, timeline, 2)?;
+    Ok((repaired, refuses(alloc, timeline, 6)?))
+}
+
 #[test]
 fn a_timeline_is_repaired(rt: HostRuntime) -> Result<(), Fail> {
     let timeline = timeline(rt.alloc())?;
-    assert!(rt; is_right(&edited(rt.alloc(), &timeline, 2)?));
-    assert!(rt; is_point_refused(&edited(rt.alloc(), &timeline, 6)?, 6));
+    let told = repairs_and_refuses(rt.alloc(), &timeline);
+    drop(timeline);
+    let (repaired, refused) = told?;
+    assert!(rt; repaired);
+    assert!(rt; refused);
     Ok(())
 }

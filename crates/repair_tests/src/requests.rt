@@ -27,7 +27,11 @@ fn asks(alloc: Global, house: &House, bytes: &[u8], from: Option<u32>) -> bool
     requires { IsTrue (is_house house.now) }
 {
     match read_request(alloc, house, bytes) {
-        Ok(asked) => is_asked(&asked, from),
+        Ok(asked) => {
+            let is = is_asked(&asked, from);
+            drop(asked);
+            is
+        }
         Err(_) => false,
     }
 }
@@ -54,6 +58,8 @@ fn are_read(alloc: Global, house: &House) -> bool {
 #[test]
 fn requests_are_read_once_they_are_whole(rt: HostRuntime) -> Result<(), Fail> {
     let house = house(rt.alloc(), 1)?;
-    assert!(rt; are_read(rt.alloc(), &house));
+    let read = are_read(rt.alloc(), &house);
+    drop(house);
+    assert!(rt; read);
     Ok(())
 }

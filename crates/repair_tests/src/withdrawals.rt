@@ -17,11 +17,19 @@ fn undone(alloc: Global) -> Result<Undone, Fail> {
     })
 }
 
+fn are_before(items: &StoredItems) -> bool {
+    are_items(items, &[(2, 0), (3, 0), (4, 0), (5, 0)]) && has_text_at(items, 2, 3)
+}
+
 /// Whether the items of before are there again, with the old text of item 4.
 fn comes_back(alloc: Global, present: &StoredItems) -> Result<bool, Fail> {
     let last = undone(alloc)?;
-    let items = unedit(alloc, present, &last)?;
-    Ok(are_items(&items, &[(2, 0), (3, 0), (4, 0), (5, 0)]) && has_text_at(&items, 2, 3))
+    let unedited = unedit(alloc, present, &last);
+    drop(last);
+    let items = unedited?;
+    let back = are_before(&items);
+    drop(items);
+    Ok(back)
 }
 
 fn is_taken_back(alloc: Global, found: &Result<Edited, EditRefused>) -> Result<bool, Fail> {
@@ -31,10 +39,19 @@ fn is_taken_back(alloc: Global, found: &Result<Edited, EditRefused>) -> Result<b
     }
 }
 
+fn comes_back_from(alloc: Global, timeline: &StoredItems) -> Result<bool, Fail> {
+    let found = edited(alloc, timeline, 2)?;
+    let back = is_taken_back(alloc, &found);
+    drop(found);
+    back
+}
+
 #[test]
 fn a_cycle_is_taken_back(rt: HostRuntime) -> Result<(), Fail> {
     let timeline = timeline(rt.alloc())?;
-    let found = edited(rt.alloc(), &timeline, 2)?;
-    assert!(rt; is_taken_back(rt.alloc(), &found)?);
+    let back = comes_back_from(rt.alloc(), &timeline);
+    drop(timeline);
+    let back = back?;
+    assert!(rt; back);
     Ok(())
 }
