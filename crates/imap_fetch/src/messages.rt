@@ -6,7 +6,7 @@ use crate::{Attributes, Messages, body_sections};
 use verb_core::Entry;
 
 /// A message as it lay before the command: its number in the view, from 1, and how many octets its text has.
-#[derive(Clone, Copy, Debug, PartialEq, Eq)]
+#[derive(Clone, Copy, PartialEq, Eq)]
 pub struct Message {
     pub place: u32,
     pub entry: Entry,

@@ -12,7 +12,7 @@ use undo_base::{Copies, Name, NoMemory, Numbers, User};
 use verb_core::Item;
 
 /// An item of a user whose answer no longer holds, or that was withdrawn.
-#[derive(Debug, Drop, PartialEq, Eq)]
+#[derive(Drop, PartialEq, Eq)]
 pub struct BrokenItem {
     pub number: u32,
     pub user: User,
@@ -24,7 +24,7 @@ pub struct BrokenItem {
 
 /// What a cycle did: its number, the number of its point, how many later items were kept, and the broken and withdrawn items. And
 /// the numbers of the notices, the mailboxes with a new stamp, and the numbers that were asked in vain.
-#[derive(Debug, Drop, PartialEq, Eq)]
+#[derive(Drop, PartialEq, Eq)]
 pub struct Report {
     pub cycle: u32,
     pub point: u32,

@@ -10,7 +10,7 @@ ghost use Rattle.paradox.specs.Words.{verb_word, reason_text, verb_of};
 use verb_core::Deed;
 
 /// What users do.
-#[derive(Clone, Copy, Debug, PartialEq, Eq)]
+#[derive(Clone, Copy, PartialEq, Eq)]
 pub enum Verb {
     Deliver,
     Append,
@@ -28,7 +28,7 @@ pub enum Verb {
 }
 
 /// Why what a user was shown no longer holds.
-#[derive(Clone, Copy, Debug, PartialEq, Eq)]
+#[derive(Clone, Copy, PartialEq, Eq)]
 pub enum Reason {
     Missing,
     Changed,

@@ -12,7 +12,7 @@ use undo_base::NoMemory;
 use verb_core::Body;
 
 /// The bodies that are known, each with its last note; and the positions of snapshots, each with where it lies.
-#[derive(Debug, Drop)]
+#[derive(Drop)]
 pub struct Shelf {
     pub(crate) rows: Vec<(Body, Note)>,
     pub(crate) marks: Vec<(u32, Place)>,

@@ -6,7 +6,7 @@
 use undo_base::{Flags, How, Keys, Name, Names, NoMemory, Text};
 
 /// What is asked of the store. `strict` is true where the messages were named by sequence number. An EXPUNGE with `only` removes no others than these.
-#[derive(Debug, Drop, PartialEq, Eq)]
+#[derive(Drop)]
 pub enum Ask {
     Deliver {
         from: Text,
@@ -70,7 +70,7 @@ pub enum Ask {
 }
 
 /// Why an ask is refused.
-#[derive(Clone, Copy, Debug, PartialEq, Eq)]
+#[derive(Clone, Copy, PartialEq, Eq)]
 pub enum Refused {
     NoBox,
     Exists,
@@ -99,7 +99,7 @@ impl From<NoMemory> for Refused {
 }
 
 /// Why a submitted ask has no item: it is refused, a device call failed, or the log is closed.
-#[derive(Clone, Copy, Debug, PartialEq, Eq)]
+#[derive(Clone, Copy, PartialEq, Eq)]
 pub enum SubmitFault {
     Refused(Refused),
     Disk,

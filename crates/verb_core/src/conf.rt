@@ -7,14 +7,14 @@ use crate::{Accounts, Aliases, Filters};
 use undo_base::{LAST_NUMBER, MOST_USERS, Name, Names, User, Users};
 
 /// A user's name and password.
-#[derive(Debug, Drop, PartialEq, Eq)]
+#[derive(Drop)]
 pub struct Account {
     pub name: Name,
     pub password: Name,
 }
 
 /// What a configuration says for good.
-#[derive(Debug, Drop, PartialEq, Eq)]
+#[derive(Drop)]
 pub struct House {
     pub host: Name,
     pub domains: Names,
@@ -45,7 +45,7 @@ impl House {
 }
 
 /// A local part that stands for users.
-#[derive(Debug, Drop, PartialEq, Eq)]
+#[derive(Drop)]
 pub struct Alias {
     pub local: Name,
     pub users: Users,
@@ -53,7 +53,7 @@ pub struct Alias {
 
 /// What a filter looks at: the whole text as it is stored; the values of the header fields of that name, which ignores case (RFC
 /// 5322, 2.2); the reverse path. Or the local parts.
-#[derive(Debug, Drop, PartialEq, Eq)]
+#[derive(Drop)]
 pub enum Scope {
     Body,
     Field(Name),
@@ -84,7 +84,7 @@ pub fn are_of_body(filters: &[Filter]) -> bool
 
 /// A message that has the needle where the scope says is filed into the mailbox of that name, or
 /// discarded where there is no such name.
-#[derive(Debug, Drop, PartialEq, Eq)]
+#[derive(Drop)]
 pub struct Filter {
     pub id: Name,
     pub needle: Name,
@@ -93,7 +93,7 @@ pub struct Filter {
 }
 
 /// The aliases by rising local part, and the filters in the order in which they are tried.
-#[derive(Debug, Drop, PartialEq, Eq)]
+#[derive(Drop)]
 pub struct Conf {
     pub aliases: Aliases,
     pub filters: Filters,

@@ -1,12 +1,12 @@
 //! Items of the timeline, and what their users were shown.
 //!
-//! Items, deeds and resolved items cannot be printed or compared in code: nothing needs it, and each such derive costs some
-//! seconds of proof.
+//! Items, deeds, acts, asks and configurations cannot be printed or compared in code, and what was shown cannot be printed.
+//! Nothing needs it, and each such derive costs some seconds of proof.
 use crate::{Aims, Filter, Sights};
 use undo_base::{Flags, How, Key, Keys, Name, Names, Text, User, Users};
 
 /// How a RENAME went.
-#[derive(Clone, Copy, Debug, PartialEq, Eq)]
+#[derive(Clone, Copy, PartialEq, Eq)]
 pub enum Way {
     Plain,
     NoSource,
@@ -14,7 +14,7 @@ pub enum Way {
 }
 
 /// An act of the operator.
-#[derive(Debug, Drop, PartialEq, Eq)]
+#[derive(Drop)]
 pub enum Act {
     SetAlias {
         local: Name,
@@ -106,7 +106,7 @@ pub enum Deed {
 }
 
 /// A message as it was shown: its key, and the rev of its body.
-#[derive(Clone, Copy, Debug, PartialEq, Eq)]
+#[derive(Clone, Copy, PartialEq, Eq)]
 pub struct Sight {
     pub key: Key,
     pub rev: u32,
@@ -139,7 +139,7 @@ pub struct Item {
 }
 
 /// A mailbox where an item's new entries go, or one that it looked for and did not find.
-#[derive(Debug, Drop, PartialEq, Eq)]
+#[derive(Drop)]
 pub struct Aim {
     pub user: User,
     pub mailbox: Name,

@@ -11,7 +11,7 @@ use std::marker::Model;
 use undo_base::{Copies, Key, NoMemory};
 
 /// The entries of a mailbox. Where their keys are known to rise, an entry is found by halves.
-#[derive(Debug, Drop)]
+#[derive(Drop)]
 pub struct Entries {
     list: Vec<Entry>,
     in_order: bool,
@@ -178,12 +178,8 @@ impl<'a> EntriesView<'a> {
 
 impl Copies for Entries {
     fn copy(&self, alloc: Global) -> Result<Entries, NoMemory> {
-        let mut list = Vec::new(alloc);
-        for entry in &self.list {
-            list.push(*entry)?;
-        }
         Ok(Entries {
-            list,
+            list: Vec::from_slice(alloc, self.list.as_slice())?,
             in_order: self.in_order,
         })
     }

@@ -5,14 +5,14 @@ use crate::Entries;
 use undo_base::{Flags, Key, Name, User};
 
 /// Names the text of a message: the item that brought it, and 0 or the cycle that replaced it.
-#[derive(Clone, Copy, Debug, PartialEq, Eq)]
+#[derive(Clone, Copy, PartialEq, Eq)]
 pub struct Body {
     pub origin: u32,
     pub rev: u32,
 }
 
 /// A message in a mailbox.
-#[derive(Clone, Copy, Debug, PartialEq, Eq)]
+#[derive(Clone, Copy, PartialEq, Eq)]
 pub struct Entry {
     pub uid: u64,
     pub key: Key,
@@ -22,14 +22,14 @@ pub struct Entry {
 }
 
 /// The next UID, and the entries by rising UID (RFC 3501, section 2.3.1.1).
-#[derive(Debug, Drop)]
+#[derive(Drop)]
 pub struct Mailbox {
     pub next: u64,
     pub entries: Entries,
 }
 
 /// Names a mailbox: whose it is, and its name.
-#[derive(Debug, Drop, PartialEq, Eq)]
+#[derive(Drop, PartialEq, Eq)]
 pub struct BoxId {
     pub user: User,
     pub name: Name,
