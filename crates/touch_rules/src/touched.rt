@@ -7,7 +7,7 @@ ghost use Rattle.std.specs.Prelude.{◌≡◌, option_copied};
 use undo_base::{Keys, Name, User};
 
 /// How an item touches a place.
-#[derive(Debug, Drop, PartialEq, Eq)]
+#[derive(Drop)]
 pub enum Touch {
     /// Messages of a mailbox, by their keys.
     Keys {
