@@ -11,7 +11,7 @@ use std::alloc::Global;
 use undo_base::{Flags, Key, Name, NameRefused, NoMemory, Text, User};
 
 /// Why reading stopped.
-#[derive(Clone, Copy, Debug, PartialEq, Eq)]
+#[derive(Clone, Copy)]
 pub(crate) enum Stop {
     /// A field is cut or out of its range. So many bytes are left from its start on.
     At { left: usize },

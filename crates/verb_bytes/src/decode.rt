@@ -7,7 +7,7 @@ ghost use Rattle.verb_bytes.specs.declared.journal.JournalRecord.{JournalRecord}
 ghost use Rattle.verb_bytes.specs.declared.journal.JournalRecord.TheVariants.{Verb, Operator, Cycle, Upgrade, Withdraw, Kept};
 ghost use Rattle.verb_bytes.specs.Readers.{Gives, nth_case, read1, read3, read4, u32_at, moment_at, name_at};
 ghost use Rattle.verb_bytes.specs.Decoding.{Decodes, IsThis};
-ghost use Rattle.verb_bytes.specs.Reading.{record_cases, record_at, any_list_at, base_at, filter_at, kept_at, text_record_at, scoped_filters_at, snapshot_at, act_at, item_at, cycle_ask_at, AnswersAll};
+ghost use Rattle.verb_bytes.specs.Reading.{record_cases, record_at, any_list_at, base_at, base_of, filter_at, kept_at, keyed_report_at, row_at, stamp_at, text_record_at, scoped_filters_at, snapshot_at, act_at, item_at, cycle_ask_at, AnswersAll};
 ghost use Rattle.verb_bytes.specs.Spelling.{Spells};
 
 use crate::cursor::{Cursor, Stop};
@@ -19,10 +19,10 @@ use crate::settings::read_house;
 use crate::{CycleAsk, JournalRecord};
 use std::alloc::Global;
 use undo_base::LAST_MOMENT;
-use verb_core::{Act, Body, Conf, Item};
+use verb_core::{Act, Aliases, Body, Conf, Filters, Item};
 
 /// Why bytes are not read as a record.
-#[derive(Clone, Copy, Debug, PartialEq, Eq)]
+#[derive(Clone, Copy)]
 pub enum BadBytes {
     /// The start of the first field that is cut or out of its range, or the place behind the last field where bytes
     /// follow.
@@ -123,6 +123,20 @@ fn read_base(alloc: Global, cursor: &mut Cursor<'_>) -> Result<JournalRecord, St
     let deep = cursor.bool()?;
     let aliases = read_list(alloc, u32::MAX, cursor)?;
     let filters = read_scoped_list(alloc, cursor)?;
+    read_base_rows(alloc, next, deep, aliases, filters, cursor)
+}
+
+/// Reads the mailboxes, their stamps and the reports, behind the other fields of a base.
+fn read_base_rows(
+    alloc: Global,
+    next: u32,
+    deep: bool,
+    aliases: Aliases,
+    filters: Filters,
+    cursor: &mut Cursor<'_>,
+) -> Result<JournalRecord, Stop>
+    ensures { Gives (read3 (base_of next deep aliases filters) (any_list_at row_at) (any_list_at stamp_at) (any_list_at keyed_report_at)) cursor.old.rest.now cursor.new.rest.now result }
+{
     let rows = read_list(alloc, u32::MAX, cursor)?;
     let stamps = read_list(alloc, u32::MAX, cursor)?;
     let reports = read_list(alloc, u32::MAX, cursor)?;

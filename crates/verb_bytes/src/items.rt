@@ -13,8 +13,8 @@ use crate::part::Part;
 use crate::shown::{kind_of, put_shown, read_shown};
 use crate::write::{MOST_BODY, MOST_LISTED, Unwritten, put_actor, put_condition, put_u32, put_u64};
 use std::alloc::Global;
-use undo_base::{LAST_MOMENT, Text};
-use verb_core::{Item, Shown};
+use undo_base::{LAST_MOMENT, Text, User};
+use verb_core::{Deed, Item};
 
 impl Part for Item {
     ghost use Rattle.verb_bytes.specs.Spelling.{item_fields};
@@ -39,29 +39,36 @@ impl Part for Item {
         let at = cursor.u64(LAST_MOMENT)?;
         let by = cursor.actor()?;
         let deed = read_deed(alloc, LAST_DEED, MOST_BODY, cursor)?;
-        read_rest(
-            alloc,
-            MOST_LISTED,
-            Item {
-                number,
-                at,
-                by,
-                rev: 0,
-                deed,
-                shown: Shown::Nothing,
-            },
-            cursor,
-        )
+        read_rest(alloc, MOST_LISTED, number, at, by, 0, deed, cursor)
     }
 }
 
 /// Reads what was shown, behind the other fields of an item. At most so many keys are listed.
-fn read_rest(alloc: Global, most: u32, item: Item, cursor: &mut Cursor<'_>) -> Result<Item, Stop>
-    ensures { Gives (read1 (item_of item.number item.at item.by item.rev item.deed) (shown_at most (shown_kind item.deed))) cursor.old.rest.now cursor.new.rest.now result }
+fn read_rest(
+    alloc: Global,
+    most: u32,
+    number: u32,
+    at: u64,
+    by: Option<User>,
+    rev: u32,
+    deed: Deed,
+    cursor: &mut Cursor<'_>,
+) -> Result<Item, Stop>
+    ensures { Gives (read1 (item_of number at by rev deed) (shown_at most (shown_kind deed))) cursor.old.rest.now cursor.new.rest.now result }
 {
-    match read_shown(alloc, most, kind_of(&item.deed), cursor) {
-        Ok(shown) => Ok(Item { shown, ..item }),
-        Err(stop) => Err(stop),
+    match read_shown(alloc, most, kind_of(&deed), cursor) {
+        Ok(shown) => Ok(Item {
+            number,
+            at,
+            by,
+            rev,
+            deed,
+            shown,
+        }),
+        Err(stop) => {
+            drop(deed);
+            Err(stop)
+        }
     }
 }
 
@@ -87,17 +94,5 @@ pub(crate) fn read_kept(alloc: Global, cursor: &mut Cursor<'_>) -> Result<Item, 
     let by = cursor.actor()?;
     let rev = cursor.u32(u32::MAX)?;
     let deed = read_deed(alloc, LAST_KEPT_DEED, u32::MAX, cursor)?;
-    read_rest(
-        alloc,
-        u32::MAX,
-        Item {
-            number,
-            at,
-            by,
-            rev,
-            deed,
-            shown: Shown::Nothing,
-        },
-        cursor,
-    )
+    read_rest(alloc, u32::MAX, number, at, by, rev, deed, cursor)
 }

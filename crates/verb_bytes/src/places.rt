@@ -25,7 +25,7 @@ use undo_base::{Name, Names, NoMemory, Sequence, Text};
 use verb_core::{Act, Deed, Filter, Item, Scope};
 
 /// Where a text lies in the bytes of a record: so many bytes, behind `from` others.
-#[derive(Clone, Copy, Debug, PartialEq, Eq)]
+#[derive(Clone, Copy, PartialEq, Eq)]
 pub struct TextPlace {
     pub from: u32,
     pub length: u32,

@@ -1,6 +1,6 @@
 //! Houses and configurations as parts of records.
-ghost use Rattle.verb_bytes.specs.Readers.{Gives};
-ghost use Rattle.verb_bytes.specs.Reading.{format_at};
+ghost use Rattle.verb_bytes.specs.Readers.{Gives, list_at, read3, user_at};
+ghost use Rattle.verb_bytes.specs.Reading.{account_at, aliases_at, format_at, format_of};
 ghost use Rattle.verb_bytes.specs.Spelling.{house_fields};
 ghost use Rattle.verb_bytes.specs.Writing.{Puts};
 
@@ -9,7 +9,7 @@ use crate::cursor::{Cursor, Stop};
 use crate::part::{Part, put_list, put_option, read_list, read_option};
 use crate::write::{MOST_ACCOUNTS, Unwritten, put_condition, put_name, put_u32, put_user};
 use std::alloc::Global;
-use undo_base::Text;
+use undo_base::{Name, Names, Text};
 use verb_core::{Account, Alias, Conf, Filter, Filters, House, Scope};
 
 impl Part for Account {
@@ -103,6 +103,19 @@ pub(crate) fn read_house(alloc: Global, cursor: &mut Cursor<'_>) -> Result<Journ
     let host = cursor.name(alloc)?;
     let domains = read_list(alloc, u32::MAX, cursor)?;
     let first = cursor.u32(u32::MAX)?;
+    read_people(alloc, host, domains, first, cursor)
+}
+
+/// Reads the accounts, the postmaster and the aliases, behind the other fields of a house.
+fn read_people(
+    alloc: Global,
+    host: Name,
+    domains: Names,
+    first: u32,
+    cursor: &mut Cursor<'_>,
+) -> Result<JournalRecord, Stop>
+    ensures { Gives (read3 (format_of host domains first) (list_at MOST_ACCOUNTS account_at) user_at aliases_at) cursor.old.rest.now cursor.new.rest.now result }
+{
     let accounts = read_list(alloc, MOST_ACCOUNTS, cursor)?;
     let postmaster = cursor.user()?;
     let aliases = read_list(alloc, u32::MAX, cursor)?;
