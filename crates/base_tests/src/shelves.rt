@@ -40,11 +40,11 @@ fn noted(alloc: Global) -> Result<Shelf, NoMemory> {
     Ok(shelf)
 }
 
-/// The first of these bodies of which another size is told.
-fn missized(shelf: &Shelf, sizes: &[(u32, u32, Option<u32>)]) -> Option<(u32, u32)> {
-    for (origin, rev, want) in sizes {
+/// The place of the first of these bodies of which another size is told.
+fn missized(shelf: &Shelf, sizes: &[(u32, u32, Option<u32>)]) -> Option<usize> {
+    for (row, (origin, rev, want)) in sizes.iter().enumerate() {
         if shelf.size(body(*origin, *rev)) != *want {
-            return Some((*origin, *rev));
+            return Some(row);
         }
     }
     None
@@ -126,30 +126,31 @@ const NEWEST: [(u32, Option<(u32, u64)>); 5] = [
     (99, Some((30, 300))),
 ];
 
-/// The first of these positions for which another snapshot is told.
-fn misplaced(shelf: &Shelf, table: &[(u32, Option<(u32, u64)>)]) -> Option<u32> {
-    for (position, want) in table {
+/// The place of the first of these positions for which another snapshot is told.
+fn misplaced(shelf: &Shelf, table: &[(u32, Option<(u32, u64)>)]) -> Option<usize> {
+    for (row, (position, want)) in table.iter().enumerate() {
         if newest(shelf, *position) != *want {
-            return Some(*position);
+            return Some(row);
         }
     }
     None
 }
 
-/// What is kept last, and how many marks there are, where those after 20 are forgotten.
-fn left_behind(shelf: &mut Shelf) -> (Option<(u32, u64)>, usize) {
+/// Whether that of 20 is kept last, and whether there are two marks, where those after 20 are forgotten.
+fn left_behind(shelf: &mut Shelf) -> (bool, bool) {
     shelf.forget_after(20);
-    (newest(shelf, 99), shelf.marks_at_or_before(99).len())
+    let is_last = newest(shelf, 99) == Some((20, 250));
+    (is_last, shelf.marks_at_or_before(99).len() == 2)
 }
 
 #[test]
 fn the_newest_snapshot_is_told_and_later_ones_are_forgotten(rt: HostRuntime) -> Result<(), Fail> {
     let mut shelf = kept(rt.alloc())?;
     let misplaced = misplaced(&shelf, &NEWEST);
-    let (newest, marks) = left_behind(&mut shelf);
+    let (is_last, are_two) = left_behind(&mut shelf);
     drop(shelf);
     assert_eq!(rt; misplaced, None);
-    assert_eq!(rt; newest, Some((20, 250)));
-    assert_eq!(rt; marks, 2);
+    assert!(rt; is_last);
+    assert!(rt; are_two);
     Ok(())
 }
