@@ -18,7 +18,7 @@ use undo_base::NoMemory;
 use verb_core::{Conf, House};
 
 /// Why a text is no configuration.
-#[derive(Clone, Copy, Debug, PartialEq, Eq, Error)]
+#[derive(Clone, Copy, Debug, Error)]
 pub enum ConfigRefused {
     #[error("not a configuration")]
     Text,
