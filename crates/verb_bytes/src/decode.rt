@@ -22,7 +22,7 @@ use undo_base::LAST_MOMENT;
 use verb_core::{Act, Aliases, Body, Conf, Filters, Item};
 
 /// Why bytes are not read as a record.
-#[derive(Clone, Copy)]
+#[derive(Clone, Copy, Debug)]
 pub enum BadBytes {
     /// The start of the first field that is cut or out of its range, or the place behind the last field where bytes
     /// follow.

@@ -31,7 +31,7 @@ pub(crate) const NOBODY: u8 = 255;
 pub(crate) const ALL_FLAGS: u8 = 31;
 
 /// Why a record is not written.
-#[derive(Clone, Copy)]
+#[derive(Clone, Copy, Debug)]
 pub enum Unwritten {
     /// A value is out of its field's range: the record has no spelling.
     Unspelled,

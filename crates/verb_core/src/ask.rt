@@ -70,7 +70,7 @@ pub enum Ask {
 }
 
 /// Why an ask is refused.
-#[derive(Clone, Copy, PartialEq, Eq)]
+#[derive(Clone, Copy, Debug, PartialEq, Eq)]
 pub enum Refused {
     NoBox,
     Exists,
@@ -99,7 +99,7 @@ impl From<NoMemory> for Refused {
 }
 
 /// Why a submitted ask has no item: it is refused, a device call failed, or the log is closed.
-#[derive(Clone, Copy, PartialEq, Eq)]
+#[derive(Clone, Copy, Debug, PartialEq, Eq)]
 pub enum SubmitFault {
     Refused(Refused),
     Disk,

@@ -7,7 +7,7 @@ use std::alloc::Global;
 use undo_base::Text;
 
 /// Why a text is not read.
-#[derive(Clone, Copy)]
+#[derive(Clone, Copy, Debug)]
 pub enum BodiesFault {
     Failed,
     NoMemory,
