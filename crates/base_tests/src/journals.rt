@@ -27,11 +27,16 @@ fn disk_sealed(disk: MemDisk, sealed: Result<(), Fail>) -> Result<MemDisk, Fail>
 fn seal_both<D: Disk>(alloc: Global, disk: &mut D) -> Result<(), Fail>
     requires { (D.told disk.old).size ≡ 0 }
 {
-    let mut log = format(alloc, disk, HEAD)?;
+    let mut log = match format(alloc, disk, HEAD) {
+        Ok(log) => log,
+        Err(_) => return Err(Fail::new("no journal")),
+    };
     let sealed = log.seal(alloc, disk, MORE);
     drop(log);
-    sealed?;
-    Ok(())
+    match sealed {
+        Ok(_) => Ok(()),
+        Err(_) => Err(Fail::new("not sealed")),
+    }
 }
 
 /// A disk of which these calls fail, after a format in the calls 1 to 4 and a seal in the calls 5 to 8.
@@ -145,7 +150,10 @@ fn closes<D: Disk>(alloc: Global, log: &mut Log, disk: &mut D) -> bool
 fn closes_behind<D: Disk>(alloc: Global, disk: &mut D) -> Result<bool, Fail>
     requires { (D.told disk.old).size ≡ 0 }
 {
-    let mut log = format(alloc, disk, HEAD)?;
+    let mut log = match format(alloc, disk, HEAD) {
+        Ok(log) => log,
+        Err(_) => return Err(Fail::new("no journal")),
+    };
     let is_closed = closes(alloc, &mut log, disk);
     drop(log);
     Ok(is_closed)
@@ -238,8 +246,14 @@ fn is_fault(found: Result<Text, ReadFault>) -> bool {
 /// Reads a part of a payload, once in a call that succeeds and once in one that fails.
 fn reads_and_fails(alloc: Global) -> Result<(bool, bool), Fail> {
     let mut disk = disk_of(alloc, b"", &[10])?;
-    let mut log = format(alloc, &mut disk, HEAD)?;
-    let place = log.seal(alloc, &mut disk, MORE)?;
+    let mut log = match format(alloc, &mut disk, HEAD) {
+        Ok(log) => log,
+        Err(_) => return Err(Fail::new("no journal")),
+    };
+    let place = match log.seal(alloc, &mut disk, MORE) {
+        Ok(place) => place,
+        Err(_) => return Err(Fail::new("not sealed")),
+    };
     let first = is_text(log.read_at(alloc, &mut disk, place, 2, 4), b"othe");
     let next = is_fault(log.read_at(alloc, &mut disk, place, 2, 4));
     drop(log);
@@ -294,10 +308,16 @@ fn seal_each<D: Disk>(
 fn seal_all<D: Disk>(alloc: Global, disk: &mut D, payloads: &Texts) -> Result<(), Fail>
     requires { (D.told disk.old).size ≡ 0 }
 {
-    let mut log = format(alloc, disk, HEAD)?;
+    let mut log = match format(alloc, disk, HEAD) {
+        Ok(log) => log,
+        Err(_) => return Err(Fail::new("no journal")),
+    };
     let sealed = seal_each(alloc, &mut log, disk, payloads.as_slice());
     drop(log);
-    Ok(sealed?)
+    match sealed {
+        Ok(()) => Ok(()),
+        Err(_) => Err(Fail::new("not sealed")),
+    }
 }
 
 fn sealed_all(alloc: Global, payloads: &Texts) -> Result<MemDisk, Fail> {

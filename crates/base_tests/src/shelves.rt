@@ -82,8 +82,14 @@ fn read_noted<D: Disk>(
 /// Reads a part of the second payload of a journal by its note.
 fn reads_where_it_is_noted(alloc: Global) -> Result<bool, Fail> {
     let mut disk = disk_of(alloc, b"", &[])?;
-    let mut log = format(alloc, &mut disk, b"the first payload")?;
-    let place = log.seal(alloc, &mut disk, b"another")?;
+    let mut log = match format(alloc, &mut disk, b"the first payload") {
+        Ok(log) => log,
+        Err(_) => return Err(Fail::new("no journal")),
+    };
+    let place = match log.seal(alloc, &mut disk, b"another") {
+        Ok(place) => place,
+        Err(_) => return Err(Fail::new("not sealed")),
+    };
     Ok(is_text(read_noted(alloc, &log, &mut disk, place)?, b"othe"))
 }
 
