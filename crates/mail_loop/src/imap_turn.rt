@@ -144,8 +144,14 @@ impl Serves for ImapSession {
         let _users = users;
         match next {
             Next::Command(raw) => match read_command(alloc, &raw) {
-                Ok(command) => take_command(alloc, desk, self, at, &command, current, reply),
-                Err(why) => refuse(alloc, self, &why, reply),
+                Ok(command) => {
+                    take_command(alloc, desk, self, at, &command, current, reply);
+                    drop(command);
+                }
+                Err(why) => {
+                    refuse(alloc, self, &why, reply);
+                    drop(why);
+                }
             },
             Next::Ask { length: _ } => say(reply, ready(), false),
             Next::Bad(line) => answer(self, bad_line(alloc, &line), reply),

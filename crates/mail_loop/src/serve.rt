@@ -257,7 +257,8 @@ fn answer_event<R: Threads + Sync, D: Disk + Drop, G: Gate>(
             hear_at(rt, alloc, desk, connections, conn, at, gate, bytes.bytes())
         }
         What::Left => {
-            connections.remove(&conn);
+            let gone = connections.remove(&conn);
+            drop(gone);
             Ok(nothing(alloc))
         }
         What::Idle => Ok(nothing(alloc)),

@@ -90,9 +90,13 @@ fn settle_again<S: Speaks, D: Disk + Drop>(
     let out_of_memory = Err(SubmitFault::Refused(Refused::NoMemory));
     match session.take_outcome(alloc, desk.store(), desk.stamps(), &out_of_memory) {
         Ok(out) => {
-            let _none = tell(reply, out);
+            drop(tell(reply, out));
+            drop(out_of_memory);
         }
-        Err(NoMemory) => close(session, reply),
+        Err(NoMemory) => {
+            close(session, reply);
+            drop(out_of_memory);
+        }
     }
 }
 
@@ -143,11 +147,14 @@ fn submit<S: Speaks, D: Disk + Drop>(
 {
     seals_join::<D>();
     let outcome = ask_desk(alloc, desk, session, at, ask, reply);
-    match settle(alloc, desk, session, &outcome, reply) {
+    let next = settle(alloc, desk, session, &outcome, reply);
+    drop(outcome);
+    match next {
         None => {}
         Some(further) => {
             let last = ask_desk(alloc, desk, session, at, further, reply);
-            let _none = settle(alloc, desk, session, &last, reply);
+            drop(settle(alloc, desk, session, &last, reply));
+            drop(last);
         }
     }
 }

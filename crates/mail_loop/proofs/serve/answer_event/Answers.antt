@@ -57,7 +57,7 @@ pub returns-in-Left-clause-home : goal.returns-in-Left-clause-home
 returns-in-Left-clause-home g c =
     let house = c.args.desk.now.kept.house in
     let es = c.args.connections.now.entries in
-    subst (λ (l : Seats). AreHome house l) (sym c.remove.ensures.entries) (home_after house false c.args.event.now.conn es c.requires.home)
+    subst (λ (l : Seats). AreHome house l) (sym c.remove-gone.ensures.entries) (home_after house false c.args.event.now.conn es c.requires.home)
 
 pub returns-in-Left-clause-answers : goal.returns-in-Left-clause-answers
 returns-in-Left-clause-answers g c =
@@ -68,8 +68,8 @@ returns-in-Left-clause-answers g c =
       false,
       [],
       Ok None,
-      subst (λ (what : What). Answers S (answers what false [] (Ok None) (min event.at 253402300799) s event.conn) desk.kept c.remove.new.self.entries (λ answer. replies_of answer.letters.items) (λ answer. answer.stops) (Ok c.nothing.result)) (sym c.in-Left.is)
-          ((refl, c.remove.ensures.entries, ap replies_of c.nothing.ensures.letters, c.nothing.ensures.goes_on), unsealed g.D.Disk.told c.seals_join.ensures.nothing desk, tt),
+      subst (λ (what : What). Answers S (answers what false [] (Ok None) (min event.at 253402300799) s event.conn) desk.kept c.remove-gone.new.self.entries (λ answer. replies_of answer.letters.items) (λ answer. answer.stops) (Ok c.nothing.result)) (sym c.in-Left.is)
+          ((refl, c.remove-gone.ensures.entries, ap replies_of c.nothing.ensures.letters, c.nothing.ensures.goes_on), unsealed g.D.Disk.told c.seals_join.ensures.nothing desk, tt),
     )
 
 pub returns-in-Idle-clause-answers : goal.returns-in-Idle-clause-answers

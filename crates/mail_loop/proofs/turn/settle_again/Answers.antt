@@ -32,5 +32,5 @@ returns-in-Ok-clause-settled g c =
     let kept = c.args.desk.now.kept in
     let e = c.take_outcome.new.self in
     let is = settled_over g.S.Speaks.speech kept c.store.result.now.store c.stamps.result.now c.args.session.now (Err (Refused NoMemory)) (took c.in-Ok.out e) c.store.ensures.value c.stamps.ensures.value c.in-Ok.ensures.ok in
-    again_told g.S.Speaks.speech c.args.was_refused kept c.args.session.now e c.in-Ok.out c.args.reply.now c.tell-none.new.reply
-    c.requires.stays c.if-not-was_refused.false is c.tell-none.ensures.told
+    again_told g.S.Speaks.speech c.args.was_refused kept c.args.session.now e c.in-Ok.out c.args.reply.now c.tell.new.reply
+    c.requires.stays c.if-not-was_refused.false is c.tell.ensures.told
