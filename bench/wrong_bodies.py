@@ -19,10 +19,10 @@ LINK, TELLING, LOGINS, TOLD = 'crates/host_outside/src/loop_link.rt', 'crates/ho
 REPLY, SPEAKS, READER = 'crates/mail_loop/src/reply.rt', 'crates/mail_loop/src/speaks.rt', 'crates/mail_loop/src/imap_turn.rt'
 CONSOLE, DIALOG = 'crates/console_session/src/reply.rt', 'crates/smtp_session/src/dialog.rt'
 WRONG = {
-    'file-is-not-synced': (PATH, 'match file.sync_all() {', 'match file.metadata().map(|_| ()) {'),
+    'file-is-not-synced': (PATH, 'let synced = file.sync_all();', 'let synced = file.metadata().map(|_| ());'),
     'bytes-are-not-synced': (PATH, '.sync_data()', '.metadata().map(|_| ())'),
     'room-that-is-not-found-is-a-failure': (PATH, 'if finds_no_room(why) {', 'if finds_no_room(why) && false {'),
-    'what-no-room-was-found-for-stays': (PATH, 'match file.set_len(size) {', 'match file.metadata().map(|_| ()) {'),
+    'what-no-room-was-found-for-stays': (PATH, 'let is_cut = file.set_len(size);', 'let is_cut = file.metadata().map(|_| ());'),
     'quota-that-is-used-up-is-a-failure': (PATH, 'ErrorKind::StorageFull | ErrorKind::QuotaExceeded | ErrorKind::FileTooLarge', 'ErrorKind::StorageFull | ErrorKind::FileTooLarge'),
     'store-may-be-removed': (PATH, 'let named = fs::metadata(files, path)?;', 'let named = file.metadata()?;'),
     'store-may-be-replaced': (PATH, 'named.dev() != opened.dev() || named.ino() != opened.ino()', 'named.dev() != opened.dev()'),
@@ -46,7 +46,7 @@ WRONG = {
     'clock-is-an-hour-off': (SEATS, 'LAST_MOMENT.min(time.as_secs())', 'LAST_MOMENT.min(time.as_secs().saturating_add(3600))'),
     'no-wait': (SEATS, 'self.hear(self.pause(quiet))?;', 'self.hear(self.pause(quiet).min(0))?;'),
     'slow-to-wake': (TOLD, 'Interest::READABLE.add(Interest::WRITABLE)', 'Interest::WRITABLE'),
-    'a-port-is-not-told-of': (PORTS, '    readiness.add(&listener, PORTS)?;\n', ''),
+    'a-port-is-not-told-of': (PORTS, '    readiness.add(listener, PORTS)?;\n', ''),
     'seats-are-not-gone-through': (SEATS, 'if now.saturating_sub(self.swept) >= SWEEP {', 'if false {'),
     'few-wait-at-a-port': (PORTS, 'libc::net::listen(listener.as_raw_fd(), MOST_WAITING)', 'libc::net::listen(listener.as_raw_fd(), 128)'),
     'imap-port-is-heard-on-the-smtp-listener': (PORTS, 'self.ports.get(place)', 'self.ports.get(if place == 1 { 0 } else { place })'),

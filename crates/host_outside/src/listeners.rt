@@ -87,7 +87,6 @@ impl<L: OpenListener + AsRawFd> Listeners<L> {
         L: Drop,
         ensures { IfOk result (λ listeners. IfSome listeners (AskedFor ports pop)) }
     {
-        let (smtp, imap, http) = ports;
         let Some(readiness) = readiness_of(net, alloc)? else {
             return Ok(None);
         };
@@ -95,11 +94,36 @@ impl<L: OpenListener + AsRawFd> Listeners<L> {
             ports: Vec::new(alloc),
             readiness,
         };
-        let all = them.add(net, Role::Smtp, smtp)?
-            && them.add(net, Role::Imap, imap)?
-            && them.add(net, Role::Http, http)?
-            && them.add_some(net, pop)?;
-        Ok(if all { Some(them) } else { None })
+        match them.add_all(net, ports, pop) {
+            Ok(true) => Ok(Some(them)),
+            Ok(false) => {
+                drop(them);
+                Ok(None)
+            }
+            Err(NoMemory) => {
+                drop(them);
+                Err(NoMemory)
+            }
+        }
+    }
+
+    /// Listens on all of these. Answers whether it does.
+    fn add_all<R: Net<Listener = L> + Eprint>(
+        &mut self,
+        net: &R,
+        ports: (u16, u16, u16),
+        pop: Option<u16>,
+    ) -> Result<bool, NoMemory>
+    where
+        L: Drop,
+        requires { self.old.ports.items ≡ [] }
+        ensures { result ≡ Ok true → AskedFor ports pop self.new }
+    {
+        let (smtp, imap, http) = ports;
+        Ok(self.add(net, Role::Smtp, smtp)?
+            && self.add(net, Role::Imap, imap)?
+            && self.add(net, Role::Http, http)?
+            && self.add_some(net, pop)?)
     }
 
     /// Listens on one more port. Answers whether it does.
@@ -202,14 +226,24 @@ fn try_listen<R: Net>(
     ensures { IfOk result (λ port. row_of port ≡ (role, asked)) }
 {
     let listener = TcpListener::bind(net, (Ipv4Addr::LOCALHOST, asked))?;
+    match begin(&listener, readiness) {
+        Ok(number) => Ok(Port {
+            role,
+            listener,
+            asked,
+            number,
+        }),
+        Err(error) => {
+            drop(listener);
+            Err(error)
+        }
+    }
+}
+
+/// From now on the system tells of it, and no call on it waits. Answers its number.
+fn begin<L: OpenListener + AsRawFd>(listener: &L, readiness: &Readiness) -> io::Result<u16> {
     listener.set_nonblocking(true)?;
     let _lengthened = libc::net::listen(listener.as_raw_fd(), MOST_WAITING);
-    readiness.add(&listener, PORTS)?;
-    let number = listener.local_addr()?.port();
-    Ok(Port {
-        role,
-        listener,
-        asked,
-        number,
-    })
+    readiness.add(listener, PORTS)?;
+    Ok(listener.local_addr()?.port())
 }

@@ -99,6 +99,18 @@ where
         Failed
     }
 
+    /// What a call came to: of one that failed this says which it was, and why.
+    fn outcome(&self, done: io::Result<()>, what: &str) -> Result<(), Failed> {
+        match done {
+            Ok(()) => Ok(()),
+            Err(error) => {
+                let failed = self.tell(what, &error);
+                drop(error);
+                Err(failed)
+            }
+        }
+    }
+
     /// The same of a call that may fail again and again: once a second.
     fn tell_seldom(&mut self, what: &str, why: &io::Error) -> Failed {
         if self.throttle.pass(second(&self.files)).is_some() {
@@ -125,7 +137,9 @@ where
     ghost told = { λ _. None };
 
     fn make(&mut self) -> Result<(), Failed> {
-        let path = self.path.ok_or(Failed)?;
+        let Some(path) = self.path else {
+            return Err(Failed);
+        };
         match make(&self.files, path.as_str()) {
             Ok(file) => {
                 self.file = Some(file);
@@ -136,7 +150,9 @@ where
     }
 
     fn read(&mut self, place: u64, buf: &mut [u8]) -> Result<(), Failed> {
-        let file = self.file.as_ref().ok_or(Failed)?;
+        let Some(file) = self.file.as_ref() else {
+            return Err(Failed);
+        };
         self.ahead.go_on(file, place);
         match read_near(&mut self.near, file, place, buf) {
             Ok(()) => Ok(()),
@@ -145,12 +161,14 @@ where
     }
 
     fn stand(&mut self, size: u64) -> Result<(), Failed> {
-        let path = self.path.ok_or(Failed)?;
-        let file = self.file.as_ref().ok_or(Failed)?;
-        match stands_at(&self.files, path.as_str(), file, size) {
-            Ok(()) => Ok(()),
-            Err(error) => Err(self.tell("the store that is served is not there any more", &error)),
-        }
+        let Some(path) = self.path else {
+            return Err(Failed);
+        };
+        let Some(file) = self.file.as_ref() else {
+            return Err(Failed);
+        };
+        let stood = stands_at(&self.files, path.as_str(), file, size);
+        self.outcome(stood, "the store that is served is not there any more")
     }
 
     fn write(&mut self, place: u64, bytes: &[u8]) -> Result<(), DiskFault> {
@@ -167,38 +185,32 @@ where
         let Some(file) = self.file.as_ref() else {
             return Err(Failed);
         };
-        match file.set_len(size) {
-            Ok(()) => Ok(()),
-            Err(error) => Err(self.tell("it cannot be cut", &error)),
-        }
+        let is_cut = file.set_len(size);
+        self.outcome(is_cut, "it cannot be cut")
     }
 
     fn sync_all(&mut self) -> Result<(), Failed> {
         let Some(file) = self.file.as_ref() else {
             return Err(Failed);
         };
-        match file.sync_all() {
-            Ok(()) => Ok(()),
-            Err(error) => Err(self.tell("it cannot be synced", &error)),
-        }
+        let synced = file.sync_all();
+        self.outcome(synced, "it cannot be synced")
     }
 
     fn sync_bytes(&mut self) -> Result<(), Failed> {
         let Some(file) = self.file.as_ref() else {
             return Err(Failed);
         };
-        match file.sync_data() {
-            Ok(()) => Ok(()),
-            Err(error) => Err(self.tell("its bytes cannot be synced", &error)),
-        }
+        let synced = file.sync_data();
+        self.outcome(synced, "its bytes cannot be synced")
     }
 
     fn sync_folder(&mut self) -> Result<(), Failed> {
-        let path = self.path.ok_or(Failed)?;
-        match sync_folder(&self.files, path.as_str()) {
-            Ok(()) => Ok(()),
-            Err(error) => Err(self.tell("its folder cannot be synced", &error)),
-        }
+        let Some(path) = self.path else {
+            return Err(Failed);
+        };
+        let synced = sync_folder(&self.files, path.as_str());
+        self.outcome(synced, "its folder cannot be synced")
     }
 }
 

@@ -71,7 +71,8 @@ impl<S: Drop> Seat<S> {
             None => false,
         };
         if is_over {
-            self.connection = None;
+            let gone = self.connection.take();
+            drop(gone);
         }
         is_over
     }
@@ -109,8 +110,10 @@ impl<S: Read + Write + OpenStream + Drop> Seat<S> {
 
     /// What is spoken over its connection, and where the other side is.
     fn reader(&self) -> Option<(&'static str, SocketAddr)> {
-        let connection = self.connection.as_ref()?;
-        Some((connection.role().name(), connection.peer()?))
+        match &self.connection {
+            Some(connection) => Some((connection.role().name(), connection.peer()?)),
+            None => None,
+        }
     }
 
     /// Its connection was active at a visit in which that came.
@@ -225,7 +228,9 @@ impl<R: Net + Clock + Eprint> Sockets<R> {
         let Some(ports) = self.ports else {
             return Ok(false);
         };
-        self.listeners = Listeners::open(&self.rt, self.alloc, ports, self.pop)?;
+        let listeners = Listeners::open(&self.rt, self.alloc, ports, self.pop)?;
+        let before = mem::replace(&mut self.listeners, listeners);
+        drop(before);
         Ok(self.listeners.is_some())
     }
 
@@ -389,7 +394,13 @@ impl<R: Net + Clock + Eprint> Sockets<R> {
     fn role_at(&self, index: usize) -> Option<Role>
         ensures { result ≡ option_map (λ row. row.0) (option_and_then (row_at index) self.now.listeners) }
     {
-        Some(self.listeners.as_ref()?.at(index)?.role())
+        let Some(listeners) = &self.listeners else {
+            return None;
+        };
+        match listeners.at(index) {
+            Some(port) => Some(port.role()),
+            None => None,
+        }
     }
 
     /// Takes in a connection that waits at a port, under the lowest free number. The last sixteen are the console's.
@@ -425,15 +436,22 @@ impl<R: Net + Clock + Eprint> Sockets<R> {
         ensures { result ≡ true → Turns place (Fills (arrived.role, arrived.port)) self.old.seats.items self.new.seats.items }
     {
         if !self.attends(&arrived.stream, place) {
+            drop(arrived);
             return false;
         }
-        let Ok(connection) = Connection::new(self.alloc, arrived) else {
-            return false;
+        let connection = match Connection::new(self.alloc, arrived) {
+            Ok(connection) => connection,
+            Err(error) => {
+                drop(error);
+                return false;
+            }
         };
         let Some(seat) = self.seats.get_mut(place) else {
+            drop(connection);
             return false;
         };
-        seat.connection = Some(connection);
+        let before = mem::replace(&mut seat.connection, Some(connection));
+        drop(before);
         self.queue.mark_active(place);
         true
     }
@@ -459,7 +477,13 @@ impl<R: Net + Clock + Eprint> Sockets<R> {
         ensures row { IfSome result (λ arrived. option_and_then (row_at index) self.old.listeners ≡ Some (arrived.role, arrived.port)) }
         ensures others { self.new ≡ record self.old { lost = self.new.lost } }
     {
-        match self.listeners.as_ref()?.at(index)?.accept() {
+        let Some(listeners) = &self.listeners else {
+            return None;
+        };
+        let Some(port) = listeners.at(index) else {
+            return None;
+        };
+        match port.accept() {
             Ok(arrived) => Some(arrived),
             Err(error) => {
                 self.tell_lost(&error);
