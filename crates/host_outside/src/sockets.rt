@@ -251,8 +251,12 @@ impl<R: Net + Clock + Eprint> Sockets<R> {
             if quiet >= IDLE {
                 break;
             }
-            if self.end_round(quiet).is_err() {
-                return Ok(None);
+            match self.end_round(quiet) {
+                Ok(()) => {}
+                Err(error) => {
+                    drop(error);
+                    return Ok(None);
+                }
             }
         }
         Ok(Some(self.event(0, What::Idle)))
@@ -342,8 +346,9 @@ impl<R: Net + Clock + Eprint> Sockets<R> {
                 Visit::Other => self.visit_other(now),
                 Visit::Over => return None,
             };
-            if event.is_some() {
-                return event;
+            match event {
+                Some(event) => return Some(event),
+                None => {}
             }
         }
         None
@@ -409,10 +414,18 @@ impl<R: Net + Clock + Eprint> Sockets<R> {
             × (event.what ≡ Joined row.0) × (event.conn ≡ place + 1) × (place < seats.seats_of row.0)
             × (position is_free self.old.seats.items ≡ Some place) × Turns place (Fills row) self.old.seats.items self.new.seats.items) }
     {
-        let role = self.role_at(index)?;
-        let place = self.free_seat(role)?;
-        let number = number_of(place)?;
-        let arrived = self.arrived(index)?;
+        let Some(role) = self.role_at(index) else {
+            return None;
+        };
+        let Some(place) = self.free_seat(role) else {
+            return None;
+        };
+        let Some(number) = number_of(place) else {
+            return None;
+        };
+        let Some(arrived) = self.arrived(index) else {
+            return None;
+        };
         if !self.seat(place, arrived) {
             return None;
         }
@@ -423,7 +436,9 @@ impl<R: Net + Clock + Eprint> Sockets<R> {
     fn free_seat(&self, role: Role) -> Option<usize>
         ensures { IfSome result (λ place. (place < seats.seats_of role) × (position is_free self.now.seats.items ≡ Some place)) }
     {
-        let place = first_free(&self.seats)?;
+        let Some(place) = first_free(&self.seats) else {
+            return None;
+        };
         if place < seats_of(role) {
             Some(place)
         } else {
