@@ -1,5 +1,5 @@
 -- Items as they were read: what they do, and what they have as before.
-use Rattle.std.proofs.Common.{◌≡◌, ℕ, zero, suc, ◌+◌, ◌-◌, ◌<◌, ◌==◌, eqb-true, get_or, slice_get, slice_set, take, Bool, cond, true, false, Option, Some, option_and_then, option_map, arith, refl, sym, ◌∙◌, ap, ap₂, subst, List, [], ◌∷◌, ◌++◌, drop, length}
+use Rattle.std.proofs.Common.{◌≡◌, ℕ, zero, suc, ◌+◌, ◌-◌, ◌<◌, ◌==◌, eqb-true, get_or, slice_get, slice_set, take, Bool, cond, true, false, Option, Some, option_and_then, option_map, arith, refl, sym, ◌∙◌, ap, ap₂, subst, List, [], ◌∷◌, ◌++◌, drop, length, Result, Ok, Err, IfOk, OnOk}
 use Rattle.std.specs.List.{AllByRecursion}
 use Rattle.std.proofs.lemmas.List.{drop-drop, length-take-le}
 use Rattle.verb_core.specs.declared.item.Deed.{Deed}
@@ -9,16 +9,18 @@ use Rattle.verb_core.specs.declared.item.Shown.{Shown}
 use Rattle.verb_core.specs.Step.{answers, run, step}
 use Rattle.verb_core.specs.Store.{MailStore}
 use Rattle.verb_core.proofs.Joins.{answers_joined}
-use Rattle.stored_items.specs.Stored.{AllHeard, IsHeard, stored, stored_deed}
+use Rattle.stored_items.specs.Stored.{AllHeard, IsHeard, step_text, stored, stored_deed}
 use Rattle.stored_items.proofs.Alike.{mailbox as mailbox_stored}
 use Rattle.stored_items.proofs.Heard.{handed_on, heard_longer}
 use Rattle.undo_base.specs.declared.keys.User.{User}
+use Rattle.undo_base.specs.declared.memory.NoMemory.{NoMemory}
 use Rattle.paradox.specs.Answers.{amiss, broken, looks_at_texts}
 use Rattle.paradox.specs.Words.{told_of, verb_of}
 use Rattle.paradox.specs.declared.words.Reason.{Reason}
 use Rattle.paradox.specs.declared.words.Verb.{Verb}
 use Rattle.verb_core.specs.declared.item.Act.TheVariants.{SetAlias, DropAlias, SetFilter, DropFilter, Remove, Give}
-use Rattle.replay_crew.proofs.Heard.{all_at, drop_set, get_behind, get_within, run_more, take_next, take_set}
+use Rattle.replay_crew.specs.Hearing.{heard_as}
+use Rattle.replay_crew.proofs.Heard.{all_at, drop_set, get_behind, get_within, run_more, step_heard, take_next, take_set}
 
 -- ---- items in order
 
@@ -27,6 +29,16 @@ numbers_heard P = handed_on (λ (i : Item). P i.number) (λ i h is p. subst P (a
 
 pub revs_heard : (P : ℕ → Type 0) (items heard : List Item) → AllHeard items heard → AllByRecursion (λ (i : Item). P i.rev) items → AllByRecursion (λ (i : Item). P i.rev) heard
 revs_heard P = handed_on (λ (i : Item). P i.rev) (λ i h is p. subst P (ap (λ (j : Item). j.rev) (sym is.stored_is)) p)
+
+-- ---- an item, performed as it is kept, with a text beside it
+
+pub text_done : (s after : MailStore) (i lent : Item) (text : List ℕ) (r : Result Shown NoMemory) → lent ≡ stored i → OnOk r (after ≡ (step_text s lent text).0) → OnOk r (after ≡ (step s (heard_as i text)).0)
+text_done s after i lent text (Err e) lends is = tt
+text_done s after i lent text (Ok shown) lends is = is ∙ ap (λ (j : Item). (step_text s j text).0) lends ∙ ap (λ (r : MailStore × Shown). r.0) (step_heard s i text)
+
+pub text_shown : (s : MailStore) (i lent : Item) (text : List ℕ) (r : Result Shown NoMemory) → lent ≡ stored i → IfOk r (λ shown. shown ≡ (step_text s lent text).1) → IfOk r (λ shown. shown ≡ (step s (heard_as i text)).1)
+text_shown s i lent text (Err e) lends is = tt
+text_shown s i lent text (Ok shown) lends is = is ∙ ap (λ (j : Item). (step_text s j text).1) lends ∙ ap (λ (r : MailStore × Shown). r.1) (step_heard s i text)
 
 -- ---- items performed one after the other
 

@@ -1,5 +1,5 @@
 -- What a client knows of mail by UID lasts over items, cycles and withdrawals.
-use Rattle.std.proofs.Common.{◌≡◌, ◌≢◌, ℕ, ◌<◌, ◌≤◌, ◌==◌, Bool, true, false, ◌&&◌, cond, arith, refl, sym, ◌∙◌, ap, subst, inl, inr, List, [], ◌∷◌, ◌++◌, drop, find, length, map, take, Option, Some, None, is_some, option_and_then, unwrap_or, eqb-true}
+use Rattle.std.proofs.Common.{◌≡◌, ◌≢◌, ℕ, ◌<◌, ◌≤◌, ◌==◌, Bool, true, false, cond, arith, refl, sym, ◌∙◌, ap, subst, inl, inr, List, [], ◌∷◌, ◌++◌, drop, find, length, map, take, Option, Some, None, is_some, unwrap_or, eqb-true}
 use Rattle.std.specs.Prelude.{◌⊎◌}
 use Rattle.std.specs.Cmp.{first_so}
 use Rattle.std.specs.Option.{option_or}

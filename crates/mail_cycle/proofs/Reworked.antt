@@ -1,5 +1,5 @@
 -- What comes of a repair from a beginning: from what came of its items through the place, of those behind it, and of settling them.
-use Rattle.std.proofs.Common.{◌≡◌, ◌∙◌, ℕ, ◌+◌, ◌-◌, ◌≤◌, arith, ap, subst, sym, List, ◌++◌, take, drop, length, Result, Ok, Err}
+use Rattle.std.proofs.Common.{◌≡◌, ◌∙◌, ℕ, ◌+◌, ◌-◌, ◌≤◌, ap, subst, sym, List, ◌++◌, take, drop, length, Result, Ok, Err}
 use Rattle.std.proofs.lemmas.List.{length-drop}
 use Rattle.std.specs.List.{AllByRecursion}
 use Rattle.verb_core.specs.declared.bodies.BodiesFault.{BodiesFault}

@@ -50,12 +50,21 @@ fn with_front(front: StoredItems, later: Replayed) -> Result<Replayed, NoMemory>
     } = later;
     let mut all = front.into_vec();
     let mut items = items.into_vec();
-    all.append(&mut items)?;
-    Ok(Replayed {
-        items: StoredItems::from_vec(all),
-        store,
-        shows,
-    })
+    let done = all.append(&mut items);
+    drop(items);
+    match done {
+        Ok(()) => Ok(Replayed {
+            items: StoredItems::from_vec(all),
+            store,
+            shows,
+        }),
+        Err(_) => {
+            drop(all);
+            drop(store);
+            drop(shows);
+            Err(NoMemory)
+        }
+    }
 }
 
 /// A repair at its place: the items behind its beginning and through the place, as they were performed, and the store that they lead
@@ -105,21 +114,33 @@ fn go_to<B: Bodies, L: Ledger>(
     };
     match cut(items, place - count) {
         Ok((through, later)) => {
-            let made = replay_in_order(alloc, store, bodies, through, place - count, steps)?;
-            let Replayed {
-                items,
-                store,
-                shows,
-            } = made;
-            drop(shows);
-            Ok(AtPoint {
-                items,
-                store,
-                later,
-                repairs,
-            })
+            match replay_in_order(alloc, store, bodies, through, place - count, steps) {
+                Ok(made) => {
+                    let Replayed {
+                        items,
+                        store,
+                        shows,
+                    } = made;
+                    drop(shows);
+                    Ok(AtPoint {
+                        items,
+                        store,
+                        later,
+                        repairs,
+                    })
+                }
+                Err(fault) => {
+                    drop(later);
+                    drop(repairs);
+                    Err(fault)
+                }
+            }
         }
-        Err(NoMemory) => Err(BodiesFault::NoMemory),
+        Err(NoMemory) => {
+            drop(store);
+            drop(repairs);
+            Err(BodiesFault::NoMemory)
+        }
     }
 }
 
@@ -143,7 +164,10 @@ fn at_point<B: Bodies, L: Ledger>(
     due.stands();
     match due.items_behind(alloc, first.count) {
         Ok(edited) => go_to(alloc, first, bodies, due.place(), edited, steps),
-        Err(NoMemory) => Err(BodiesFault::NoMemory),
+        Err(NoMemory) => {
+            drop(first);
+            Err(BodiesFault::NoMemory)
+        }
     }
 }
 
@@ -167,7 +191,10 @@ fn settled<L: Ledger>(
 {
     match with_front(front, later) {
         Ok(replayed) => settle(alloc, due, repairs, replayed, steps),
-        Err(NoMemory) => Err(NoMemory),
+        Err(NoMemory) => {
+            drop(repairs);
+            Err(NoMemory)
+        }
     }
 }
 
@@ -196,10 +223,16 @@ pub fn rework_by_levels<R: Threads + Sync, G: Gate, B: Bodies, L: Ledger>(
         later,
         repairs,
     } = there;
-    let later = replay_by_levels(rt, alloc, store, bodies, later, gate, steps)?;
-    match settled(alloc, due, repairs, items, later, steps) {
-        Ok(made) => Ok(made),
-        Err(NoMemory) => Err(BodiesFault::NoMemory),
+    match replay_by_levels(rt, alloc, store, bodies, later, gate, steps) {
+        Ok(later) => match settled(alloc, due, repairs, items, later, steps) {
+            Ok(made) => Ok(made),
+            Err(NoMemory) => Err(BodiesFault::NoMemory),
+        },
+        Err(fault) => {
+            drop(items);
+            drop(repairs);
+            Err(fault)
+        }
     }
 }
 
@@ -223,9 +256,15 @@ pub fn rework_in_order<B: Bodies, L: Ledger>(
         later,
         repairs,
     } = there;
-    let later = replay_in_order(alloc, store, bodies, later, 0, steps)?;
-    match settled(alloc, due, repairs, items, later, steps) {
-        Ok(made) => Ok(made),
-        Err(NoMemory) => Err(BodiesFault::NoMemory),
+    match replay_in_order(alloc, store, bodies, later, 0, steps) {
+        Ok(later) => match settled(alloc, due, repairs, items, later, steps) {
+            Ok(made) => Ok(made),
+            Err(NoMemory) => Err(BodiesFault::NoMemory),
+        },
+        Err(fault) => {
+            drop(items);
+            drop(repairs);
+            Err(fault)
+        }
     }
 }

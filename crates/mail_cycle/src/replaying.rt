@@ -51,8 +51,17 @@ fn run_levels<R: Threads + Sync, G: Gate, L: Ledger>(
     ensures steps { OnOk result (steps.new ≡ steps.old + length items.now) }
     ensures most { OnErr result (steps.new ≤ steps.old + length items.now) }
 {
-    let levels = levels_of(alloc, items)?;
-    run_plan(rt, alloc, store, &levels, items, gate, steps)
+    match levels_of(alloc, items) {
+        Ok(levels) => {
+            let made = run_plan(rt, alloc, store, &levels, items, gate, steps);
+            drop(levels);
+            made
+        }
+        Err(NoMemory) => {
+            drop(store);
+            Err(NoMemory)
+        }
+    }
 }
 
 /// The store that items lead to from the given one, and what each of them shows there, level by level. The items of a level are
@@ -82,13 +91,26 @@ pub(crate) fn replay_by_levels<R: Threads + Sync, G: Gate, B: Bodies, L: Ledger>
     ensures leads { B.leads bodies.old bodies.new }
 {
     let mut items = items.into_vec();
-    let resolved = resolve(alloc, &store, &mut items, bodies)?;
-    match run_levels(rt, alloc, store, &resolved, gate, steps) {
-        Ok((store, shows)) => Ok(Replayed {
-            items: StoredItems::from_vec(items),
-            store,
-            shows,
-        }),
-        Err(NoMemory) => Err(BodiesFault::NoMemory),
+    match resolve(alloc, &store, &mut items, bodies) {
+        Ok(resolved) => match run_levels(rt, alloc, store, &resolved, gate, steps) {
+            Ok((store, shows)) => {
+                drop(resolved);
+                Ok(Replayed {
+                    items: StoredItems::from_vec(items),
+                    store,
+                    shows,
+                })
+            }
+            Err(NoMemory) => {
+                drop(resolved);
+                drop(items);
+                Err(BodiesFault::NoMemory)
+            }
+        },
+        Err(fault) => {
+            drop(items);
+            drop(store);
+            Err(fault)
+        }
     }
 }

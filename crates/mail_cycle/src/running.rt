@@ -70,13 +70,15 @@ fn perform_heard<B: Bodies, L: Ledger>(
     ensures stays { StaysTold (B.told bodies.old) (B.told bodies.new) }
     ensures leads { B.leads bodies.old bodies.new }
 {
-    let text = text_for(alloc, bodies, item)?;
-    match perform(alloc, store, item, text.bytes(), steps) {
-        Ok(shown) => {
-            hear(item, &text);
-            Ok(shown)
-        }
-        Err(NoMemory) => Err(BodiesFault::NoMemory),
+    match text_for(alloc, bodies, item) {
+        Ok(text) => match perform(alloc, store, item, text.bytes(), steps) {
+            Ok(shown) => {
+                hear(item, &text);
+                Ok(shown)
+            }
+            Err(NoMemory) => Err(BodiesFault::NoMemory),
+        },
+        Err(fault) => Err(fault),
     }
 }
 
@@ -160,6 +162,10 @@ pub fn replay_in_order<B: Bodies, L: Ledger>(
             store,
             shows,
         }),
-        Err(fault) => Err(fault),
+        Err(fault) => {
+            drop(items);
+            drop(store);
+            Err(fault)
+        }
     }
 }

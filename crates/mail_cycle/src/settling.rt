@@ -143,7 +143,10 @@ fn performed<L: Ledger>(
     let mut store = store;
     match perform_all(alloc, &mut store, notices, steps) {
         Ok(()) => Ok(store),
-        Err(NoMemory) => Err(NoMemory),
+        Err(NoMemory) => {
+            drop(store);
+            Err(NoMemory)
+        }
     }
 }
 
@@ -195,11 +198,27 @@ fn lead<L: Ledger>(
         store,
         shows,
     } = replayed;
-    let store = performed(alloc, store, notices.as_slice(), steps)?;
-    let now = behind(shows.as_slice(), inserts);
-    match in_force(alloc, front, items, now, notices) {
-        Ok(items) => Ok(Led { store, items }),
-        Err(NoMemory) => Err(NoMemory),
+    match performed(alloc, store, notices.as_slice(), steps) {
+        Ok(store) => {
+            let now = behind(shows.as_slice(), inserts);
+            match in_force(alloc, front, items, now, notices) {
+                Ok(items) => {
+                    drop(shows);
+                    Ok(Led { store, items })
+                }
+                Err(NoMemory) => {
+                    drop(shows);
+                    drop(store);
+                    Err(NoMemory)
+                }
+            }
+        }
+        Err(NoMemory) => {
+            drop(items);
+            drop(shows);
+            drop(notices);
+            Err(NoMemory)
+        }
     }
 }
 
@@ -264,7 +283,11 @@ fn finish(
                 unmatched: found.unmatched,
             },
         }),
-        Err(NoMemory) => Err(NoMemory),
+        Err(NoMemory) => {
+            drop(led);
+            drop(found);
+            Err(NoMemory)
+        }
     }
 }
 
@@ -286,6 +309,16 @@ fn both(first: usize, second: usize) -> Result<u32, NoMemory>
         Some(count) => short(count),
         None => Err(NoMemory),
     }
+}
+
+/// A place, and where the notices begin behind so many of the first items and those replayed, in 32 bits.
+fn places(place: usize, from: usize, replayed: usize) -> Result<(u32, u32), NoMemory>
+    ensures place { IfOk result (λ places. places.0 ≡ place) }
+    ensures placed { IfOk result (λ places. places.1 ≡ from + replayed) }
+{
+    let place = short(place)?;
+    let placed = both(from, replayed)?;
+    Ok((place, placed))
 }
 
 /// Puts all together by what users are told, with the notices performed. The replayed items are those behind the first so many.
@@ -326,20 +359,33 @@ fn close<L: Ledger>(
     let acts = due.acts();
     let front = due.front() - repairs.from;
     let entered = acts as u32 + told.numbers.len() as u32;
-    let found = Found {
-        place: short(due.place())?,
-        from: repairs.from,
-        placed: both(repairs.from, replayed.items.len())?,
-        next: due.before().next() + 1 + entered,
-        entered,
-        kept: repairs.kept,
-        broken: told.broken,
-        notices: told.numbers,
-        unmatched: repairs.unmatched,
-    };
-    match lead(alloc, front, acts, replayed, told.notices, steps) {
-        Ok(led) => finish(alloc, due.before(), due.point(), led, found),
-        Err(NoMemory) => Err(NoMemory),
+    match places(due.place(), repairs.from, replayed.items.len()) {
+        Ok((place, placed)) => {
+            let found = Found {
+                place,
+                from: repairs.from,
+                placed,
+                next: due.before().next() + 1 + entered,
+                entered,
+                kept: repairs.kept,
+                broken: told.broken,
+                notices: told.numbers,
+                unmatched: repairs.unmatched,
+            };
+            match lead(alloc, front, acts, replayed, told.notices, steps) {
+                Ok(led) => finish(alloc, due.before(), due.point(), led, found),
+                Err(NoMemory) => {
+                    drop(found);
+                    Err(NoMemory)
+                }
+            }
+        }
+        Err(NoMemory) => {
+            drop(repairs);
+            drop(replayed);
+            drop(told);
+            Err(NoMemory)
+        }
     }
 }
 
@@ -365,6 +411,10 @@ pub(crate) fn settle<L: Ledger>(
     due.stands();
     match tell_users(alloc, due, replayed.shows.as_slice()) {
         Ok(told) => close(alloc, due, repairs, replayed, told, steps),
-        Err(NoMemory) => Err(NoMemory),
+        Err(NoMemory) => {
+            drop(repairs);
+            drop(replayed);
+            Err(NoMemory)
+        }
     }
 }

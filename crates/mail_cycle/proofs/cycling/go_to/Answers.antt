@@ -4,7 +4,6 @@ use Rattle.std.specs.List.{AllByRecursion}
 use Rattle.verb_core.specs.declared.item.Item.{Item}
 use Rattle.stored_items.specs.Stored.{AllHeard}
 use Rattle.replay_crew.specs.Hearing.{HoldsOf, StoresOf}
-use Rattle.replay_crew.proofs.Loops.{at_err}
 use Rattle.mail_cycle.proofs.Told.{all_held, all_stored, front_told}
 use Rattle.mail_cycle.proofs.cycling.go_to.Goals as goal
 
@@ -15,13 +14,13 @@ replay_in_order-requires-clause-held g c =
     let items = c.args.edited.items in
     subst (AllByRecursion (HoldsOf told)) (sym c.in-Ok.ensures.front) (all_held told (take rest items) (front_told told rest items c.requires.texts))
 
-pub returns-in_ok-made-in-Ok-clause-passes : goal.returns-in_ok-made-in-Ok-clause-passes
-returns-in_ok-made-in-Ok-clause-passes g c =
+pub returns-in-Ok-replay_in_order-clause-passes : goal.returns-in-Ok-replay_in_order-clause-passes
+returns-in-Ok-replay_in_order-clause-passes g c =
     let told = g.B.Bodies.told c.args.bodies.now in
     let rest = c.args.place - c.args.first.count in
     let items = c.args.edited.items in
-    let made = c.in_ok-made-in-Ok.made in
-    let done = c.in_ok-made-in-Ok.ensures in
+    let made = c.in-Ok-replay_in_order.made in
+    let done = c.in-Ok-replay_in_order.ensures in
     let front = c.in-Ok.ensures.front in
     record {
       heard = subst (λ (t : List Item). AllHeard t made.items) front done.heard;
@@ -31,8 +30,8 @@ returns-in_ok-made-in-Ok-clause-passes g c =
       later = c.in-Ok.ensures.later;
     }
 
-pub returns-in_err-made-in-Ok-clause-most : goal.returns-in_err-made-in-Ok-clause-most
-returns-in_err-made-in-Ok-clause-most g c =
+pub returns-in-Err-replay_in_order-clause-most : goal.returns-in-Err-replay_in_order-clause-most
+returns-in-Err-replay_in_order-clause-most g c =
     let rest = c.args.place - c.args.first.count in
     let through = ap (λ (t : List Item). length t) c.in-Ok.ensures.front in
-    at_err c.from_residual.result (omega (arith, through, length-take-le rest c.args.edited.items c.requires.place, c.requires.few, c.in_err-made-in-Ok.ensures.most))
+    omega (arith, through, length-take-le rest c.args.edited.items c.requires.place, c.requires.few, c.in-Err-replay_in_order.ensures.most)

@@ -15,9 +15,9 @@ settled-requires-clause-house g c =
     let mid = g.B.Bodies.told c.at_point.new.bodies in
     let due = c.args.due.now in
     let there = c.in_ok-there.ensures in
-    let done = c.in_ok-later.ensures in
-    house_replayed due c.stands.ensures.task c.args.first c.requires.begins old mid c.in_ok-there.there there.there c.in_ok-later.later
-    (replayed ⊥ due c.stands.ensures.task c.args.first c.requires.begins old mid mid c.in_ok-there.there there.there there.stays c.in_ok-later.later done.heard done.same done.store done.valid done.shows)
+    let done = c.in-Ok.ensures in
+    house_replayed due c.stands.ensures.task c.args.first c.requires.begins old mid c.in_ok-there.there there.there c.in-Ok.later
+    (replayed ⊥ due c.stands.ensures.task c.args.first c.requires.begins old mid mid c.in_ok-there.there there.there there.stays c.in-Ok.later done.heard done.same done.store done.valid done.shows)
 
 pub settled-requires-clause-long : goal.settled-requires-clause-long
 settled-requires-clause-long g c =
@@ -25,12 +25,12 @@ settled-requires-clause-long g c =
     let mid = g.B.Bodies.told c.at_point.new.bodies in
     let due = c.args.due.now in
     let there = c.in_ok-there.ensures in
-    let done = c.in_ok-later.ensures in
-    long_replayed due c.stands.ensures.task c.args.first c.requires.begins old mid c.in_ok-there.there there.there c.in_ok-later.later
-    (replayed ⊥ due c.stands.ensures.task c.args.first c.requires.begins old mid mid c.in_ok-there.there there.there there.stays c.in_ok-later.later done.heard done.same done.store done.valid done.shows)
+    let done = c.in-Ok.ensures in
+    long_replayed due c.stands.ensures.task c.args.first c.requires.begins old mid c.in_ok-there.there there.there c.in-Ok.later
+    (replayed ⊥ due c.stands.ensures.task c.args.first c.requires.begins old mid mid c.in_ok-there.there there.there there.stays c.in-Ok.later done.heard done.same done.store done.valid done.shows)
 
-pub returns-in-Ok : goal.returns-in-Ok
-returns-in-Ok g c =
+pub returns-in-Ok-settled : goal.returns-in-Ok-settled
+returns-in-Ok-settled g c =
     let old = g.B.Bodies.told c.args.bodies.now in
     let mid = g.B.Bodies.told c.at_point.new.bodies in
     let new = g.B.Bodies.told c.replay_in_order.new.bodies in
@@ -38,11 +38,11 @@ returns-in-Ok g c =
     let task = c.stands.ensures.task in
     let begins = c.requires.begins in
     let there = c.in_ok-there.ensures in
-    let done = c.in_ok-later.ensures in
-    let settles = c.in-Ok.ensures.settles in
-    reworks_ok _ due task c.args.first begins old mid new c.in_ok-there.there there.there c.in_ok-later.later
-    (replayed ⊥ due task c.args.first begins old mid new c.in_ok-there.there there.there there.stays c.in_ok-later.later done.heard done.same done.store done.valid done.shows)
-    c.in-Ok.made c.args.steps.now c.at_point.new.steps c.replay_in_order.new.steps c.settled.new.steps settles.from settles.made there.steps done.steps c.in-Ok.ensures.steps done.reads there.reads
+    let done = c.in-Ok.ensures in
+    let settles = c.in-Ok-settled.ensures.settles in
+    reworks_ok (g.B.Bodies.leads c.args.bodies.now c.replay_in_order.new.bodies) due task c.args.first begins old mid new c.in_ok-there.there there.there c.in-Ok.later
+    (replayed ⊥ due task c.args.first begins old mid new c.in_ok-there.there there.there there.stays c.in-Ok.later done.heard done.same done.store done.valid done.shows)
+    c.in-Ok-settled.made c.args.steps.now c.at_point.new.steps c.replay_in_order.new.steps c.settled.new.steps settles.from settles.made there.steps done.steps c.in-Ok-settled.ensures.steps done.reads there.reads
     (stays_on old mid new there.stays done.stays) (g.met.B.Bodies.leads_on _ _ _ there.leads done.leads)
 
 -- where a read fails or memory is wanting, no item was performed twice
@@ -52,25 +52,9 @@ returns-in_err-there g c =
     let mid = g.B.Bodies.told c.at_point.new.bodies in
     let p = err_from_is_err_and c.from_residual.result c.from_residual.ensures.1 in
     let there = c.in_err-there.ensures in
-    reworks_none _ c.args.due.now c.stands.ensures.task c.args.first c.requires.begins old old mid c.args.steps.now c.at_point.new.steps c.from_residual.result p.0 c.in_err-there.field-0.0 p.1 p.2
+    reworks_none (g.B.Bodies.leads c.args.bodies.now c.at_point.new.bodies) c.args.due.now c.stands.ensures.task c.args.first c.requires.begins old old mid c.args.steps.now c.at_point.new.steps c.from_residual.result p.0 c.in_err-there.field-0.0 p.1 p.2
     (omega (arith, c.requires.begins.few, there.most))
     (counts_later AtPoint Rewound old old mid c.in_err-there.field-0.0 refl there.reads) there.stays there.leads
-
-pub returns-in_err-later : goal.returns-in_err-later
-returns-in_err-later g c =
-    let old = g.B.Bodies.told c.args.bodies.now in
-    let mid = g.B.Bodies.told c.at_point.new.bodies in
-    let new = g.B.Bodies.told c.replay_in_order.new.bodies in
-    let due = c.args.due.now in
-    let task = c.stands.ensures.task in
-    let begins = c.requires.begins in
-    let p = err_from_is_err_and c.from_residual-in_err-later.result c.from_residual-in_err-later.ensures.1 in
-    let there = c.in_ok-there.ensures in
-    let done = c.in_err-later.ensures in
-    let rest = rest_there ⊥ due task c.args.first begins old mid new c.in_ok-there.there there.there in
-    reworks_none _ due task c.args.first begins old mid new c.args.steps.now c.replay_in_order.new.steps c.from_residual-in_err-later.result p.0 c.in_err-later.field-0.0 p.1 p.2
-    (omega (arith, task.long, rest, begins.few, there.steps, done.most))
-    (counts_later Replayed Rewound old mid new c.in_err-later.field-0.0 there.reads done.reads) (stays_on old mid new there.stays done.stays) (g.met.B.Bodies.leads_on _ _ _ there.leads done.leads)
 
 pub returns-in-Err : goal.returns-in-Err
 returns-in-Err g c =
@@ -81,8 +65,23 @@ returns-in-Err g c =
     let task = c.stands.ensures.task in
     let begins = c.requires.begins in
     let there = c.in_ok-there.ensures in
-    let done = c.in_ok-later.ensures in
+    let done = c.in-Err.ensures in
     let rest = rest_there ⊥ due task c.args.first begins old mid new c.in_ok-there.there there.there in
-    reworks_none _ due task c.args.first begins old mid new c.args.steps.now c.settled.new.steps _ NoMemory NoMemory refl refl
-    (omega (arith, task.long, rest, begins.few, there.steps, done.steps, c.in-Err.ensures.most))
+    reworks_none (g.B.Bodies.leads c.args.bodies.now c.replay_in_order.new.bodies) due task c.args.first begins old mid new c.args.steps.now c.replay_in_order.new.steps _ c.in-Err.fault c.in-Err.fault refl refl
+    (omega (arith, task.long, rest, begins.few, there.steps, done.most))
+    (counts_later Replayed Rewound old mid new c.in-Err.fault there.reads done.reads) (stays_on old mid new there.stays done.stays) (g.met.B.Bodies.leads_on _ _ _ there.leads done.leads)
+
+pub returns-in-Err-settled : goal.returns-in-Err-settled
+returns-in-Err-settled g c =
+    let old = g.B.Bodies.told c.args.bodies.now in
+    let mid = g.B.Bodies.told c.at_point.new.bodies in
+    let new = g.B.Bodies.told c.replay_in_order.new.bodies in
+    let due = c.args.due.now in
+    let task = c.stands.ensures.task in
+    let begins = c.requires.begins in
+    let there = c.in_ok-there.ensures in
+    let done = c.in-Ok.ensures in
+    let rest = rest_there ⊥ due task c.args.first begins old mid new c.in_ok-there.there there.there in
+    reworks_none (g.B.Bodies.leads c.args.bodies.now c.replay_in_order.new.bodies) due task c.args.first begins old mid new c.args.steps.now c.settled.new.steps _ NoMemory NoMemory refl refl
+    (omega (arith, task.long, rest, begins.few, there.steps, done.steps, c.in-Err-settled.ensures.most))
     (done.reads ∙ there.reads) (stays_on old mid new there.stays done.stays) (g.met.B.Bodies.leads_on _ _ _ there.leads done.leads)

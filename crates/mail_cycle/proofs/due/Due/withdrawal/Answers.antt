@@ -1,9 +1,8 @@
-use Rattle.std.proofs.Common.{rules, ◌≡◌, ◌∙◌, ◌+◌, ◌≤◌, List, ap, arith, nat_le, subst, sym, take, drop, true, length}
+use Rattle.std.proofs.Common.{rules, ◌≡◌, ◌∙◌, ◌+◌, List, ap, arith, nat_le, subst, sym, drop, true, length}
 use Rattle.verb_core.specs.declared.item.Item.{Item}
 use Rattle.withdraw.specs.Unediting.{unedited_behind}
 use Rattle.cycle_rules.specs.Withdrawals.{restored_items}
-use Rattle.mail_cycle.specs.declared.due.Work.TheVariants.{Restored}
-use Rattle.mail_cycle.specs.Tasks.{IsTask, Task, task_by, withdrawal_task}
+use Rattle.mail_cycle.specs.Tasks.{IsTask, Task}
 use Rattle.mail_cycle.proofs.due.Due.withdrawal.Goals as goal
 use Rattle.mail_cycle.proofs.Made.{withdrawal_can, withdrawal_is}
 
