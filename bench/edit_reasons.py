@@ -1,15 +1,16 @@
 #!/usr/bin/env python3
 """Says for each edit why the prover refuses it: for a goal that is open, or only for a name, a type or a text that is not there. The latter shows nothing.
 
-usage: bench/edit_reasons.py BUILT [--jobs N] [NAME ..]
+usage: bench/edit_reasons.py BUILT [--jobs N] [--note] [NAME ..]
        BUILT: a checkout of the same text in which `rt ci` has run, so that its crates/*/out/rlib hold the libraries
        NAME: a crate, all of whose edits are tried, or CRATE/EDIT; without any all of must-fail/ and more-edits/
+       --note: writes the goal and the day into each edit of more-edits/ that was refused for one (bench/edits.py says how)
 
 Each edit is made in a copy of its crate, and the functions that it changes are checked alone, over the libraries of BUILT. A line each:
 CRATE/EDIT, then `a goal: ITS NAME`, `a name: THE MESSAGE`, `PROVED`, or `slow`. The status is 0 where each was refused for a goal.
 An edit of a line that is in no function (a constant, a field) is checked with the whole crate.
 """
-import concurrent.futures, glob, os, re, shutil, subprocess, sys, tempfile
+import concurrent.futures, datetime, edits as ledger, glob, os, re, shutil, subprocess, sys, tempfile
 
 TOP = os.path.dirname(os.path.dirname(os.path.abspath(__file__)))
 KIT = os.path.dirname(os.path.dirname(os.path.realpath(shutil.which('rt'))))
@@ -72,6 +73,7 @@ def reason(built, uses, edit):
 
 def main():
     words, jobs = sys.argv[1:], 2
+    if noted := '--note' in words: words.remove('--note')
     if '--jobs' in words: at = words.index('--jobs'); jobs = int(words[at + 1]); del words[at:at + 2]
     if not words or words[0].startswith('-'): sys.exit(__doc__)
     built, names = os.path.abspath(words[0]), words[1:]
@@ -82,6 +84,7 @@ def main():
     with concurrent.futures.ThreadPoolExecutor(jobs) as pool:
         for edit, why in zip(chosen, pool.map(lambda it: reason(built, uses, it), chosen)):
             bad += not why.startswith('a goal')
+            if noted and why.startswith('a goal') and '/more-edits/' in edit: ledger.note(edit, datetime.date.today(), why.replace(': ', ' ', 1))
             print(f'{label(edit)} | {why}', flush=True)
     print(f'{len(chosen)} edits, {len(chosen) - bad} refused for a goal, {bad} not')
     sys.exit(1 if bad else 0)
