@@ -120,10 +120,12 @@ impl<L: OpenListener + AsRawFd> Listeners<L> {
         ensures { result ≡ Ok true → AskedFor ports pop self.new }
     {
         let (smtp, imap, http) = ports;
-        Ok(self.add(net, Role::Smtp, smtp)?
-            && self.add(net, Role::Imap, imap)?
-            && self.add(net, Role::Http, http)?
-            && self.add_some(net, pop)?)
+        Ok(
+            self.add(net, Role::Smtp, smtp)?
+                && self.add(net, Role::Imap, imap)?
+                && self.add(net, Role::Http, http)?
+                && self.add_some(net, pop)?,
+        )
     }
 
     /// Listens on one more port. Answers whether it does.
