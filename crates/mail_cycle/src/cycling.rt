@@ -116,15 +116,10 @@ fn go_to<B: Bodies, L: Ledger>(
         Ok((through, later)) => {
             match replay_in_order(alloc, store, bodies, through, place - count, steps) {
                 Ok(made) => {
-                    let Replayed {
-                        items,
-                        store,
-                        shows,
-                    } = made;
-                    drop(shows);
+                    drop(made.shows);
                     Ok(AtPoint {
-                        items,
-                        store,
+                        items: made.items,
+                        store: made.store,
                         later,
                         repairs,
                     })
