@@ -22,6 +22,7 @@ use crate::words::{Answer, Word, push_tagged, tagged};
 use box_store::Store;
 use imap_view::{account_of, is_current, mail_of, mailbox_of, news, view_of};
 use std::alloc::Global;
+use std::mem;
 use undo_base::{Name, NoMemory, Text, User};
 use verb_core::{Ask, House, Refused};
 
@@ -99,18 +100,32 @@ pub(crate) fn follow(
     }
 }
 
+/// This is awaited from now on.
+pub(crate) fn wait_for(dialog: &mut Dialog, awaits: Awaits)
+    ensures { dialog.new ≡ record dialog.old { awaits = awaits } }
+{
+    drop(mem::replace(&mut dialog.awaits, awaits));
+}
+
+/// This mailbox is selected from now on, or none.
+pub(crate) fn hold(selected: &mut Option<Selected>, now: Option<Selected>)
+    ensures { selected.new ≡ now }
+{
+    drop(mem::replace(selected, now));
+}
+
 /// Texts are awaited.
 pub(crate) fn wait_for_texts(dialog: &mut Dialog, tag: Name, wanted: Wanted)
     ensures { dialog.new ≡ spec.awaiting_texts tag wanted dialog.old }
 {
-    dialog.awaits = Awaits::Texts { tag, wanted };
+    wait_for(dialog, Awaits::Texts { tag, wanted });
 }
 
 /// The store is asked, and the outcome is awaited.
 pub(crate) fn submit(dialog: &mut Dialog, tag: Name, asked: Ask, pending: Pending) -> ImapOut
     ensures { spec.asks asked tag pending dialog.old ≡ took result dialog.new }
 {
-    dialog.awaits = Awaits::Outcome { tag, pending };
+    wait_for(dialog, Awaits::Outcome { tag, pending });
     ImapOut::Submit(asked)
 }
 
@@ -159,7 +174,7 @@ fn select_none(alloc: Global, dialog: &mut Dialog, tag: &Name) -> Result<ImapOut
     ensures err { OnErr result (dialog.new ≡ dialog.old) }
 {
     let out = say(alloc, tag, Answer::Refused(Refused::NoBox))?;
-    dialog.selected = None;
+    hold(&mut dialog.selected, None);
     Ok(out)
 }
 
@@ -217,7 +232,7 @@ pub(crate) fn select(
     match begin_select(alloc, deep, dialog, tag, mailbox, writes) {
         Ok(out) => Ok(out),
         Err(NoMemory) => {
-            dialog.selected = None;
+            hold(&mut dialog.selected, None);
             Err(NoMemory)
         }
     }

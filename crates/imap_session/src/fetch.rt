@@ -14,7 +14,7 @@ ghost use Rattle.imap_session.specs.Fetching as fetching_spec;
 ghost use Rattle.imap_session.specs.Dialog.{took};
 ghost use Rattle.imap_session.specs.Dialog as spec;
 
-use crate::commands::{say, say_nothing, submit, wait_for_texts};
+use crate::commands::{say, say_nothing, submit, wait_for, wait_for_texts};
 use crate::dialog::{Awaits, Dialog, Fetching, Pending, Selected, Wanted};
 use crate::out::{Bodies0, ImapOut};
 use crate::search::search_texts;
@@ -76,7 +76,8 @@ fn is_refused_unread(fetching: &Fetching) -> bool
         || MOST_FETCHED < fetching.octets
 }
 
-fn all_bodies(alloc: Global, rows: &[Message]) -> Result<Vec<Body>, AllocError>
+/// The bodies of messages.
+pub(crate) fn all_bodies(alloc: Global, rows: &[Message]) -> Result<Vec<Body>, AllocError>
     ensures { IfOk result (λ bodies. bodies.items ≡ map (λ m. m.entry.body) rows.now) }
 {
     rows.iter().map(|row| row.entry.body).collect(alloc)
@@ -129,10 +130,38 @@ fn begin_fetch(
     ensures { spec.begin_fetch tag dialog.old fetching bodies ≡ took result dialog.new }
 {
     if bodies.is_empty() {
+        drop(bodies);
         submit_fetch(dialog, tag, fetching, Texts::new(alloc))
     } else {
         wait_for_texts(dialog, tag, Wanted::Fetch(fetching));
         ImapOut::Read(bodies)
+    }
+}
+
+/// A FETCH of messages that were found.
+fn fetch_them(
+    alloc: Global,
+    dialog: &mut Dialog,
+    tag: &Name,
+    fetching: Fetching,
+) -> Result<ImapOut, NoMemory>
+    ensures ok { IfOk result (λ out. spec.begin_fetch tag.now dialog.old fetching (fetching_spec.bodies_of fetching) ≡ took out dialog.new) }
+    ensures err { OnErr result (dialog.new ≡ dialog.old) }
+{
+    let bodies = match bodies_of(alloc, &fetching) {
+        Ok(bodies) => bodies,
+        Err(NoMemory) => {
+            drop(fetching);
+            return Err(NoMemory);
+        }
+    };
+    match tag.copy(alloc) {
+        Ok(tag) => Ok(begin_fetch(alloc, dialog, tag, fetching, bodies)),
+        Err(NoMemory) => {
+            drop(fetching);
+            drop(bodies);
+            Err(NoMemory)
+        }
     }
 }
 
@@ -159,10 +188,9 @@ fn fetch_in(
     };
     let fetching = fetching_of(
         alloc, store, sizes, dialog, selected, attributes, by_uid, &places,
-    )?;
-    let bodies = bodies_of(alloc, &fetching)?;
-    let tag = tag.copy(alloc)?;
-    Ok(begin_fetch(alloc, dialog, tag, fetching, bodies))
+    );
+    drop(places);
+    fetch_them(alloc, dialog, tag, fetching?)
 }
 
 /// FETCH and UID FETCH.
@@ -270,7 +298,7 @@ pub(crate) fn hear(
             Err(fault) => miss_texts(alloc, dialog, tag, wanted, *fault),
         },
         Awaits::Outcome { tag, pending } => {
-            dialog.awaits = Awaits::Outcome { tag, pending };
+            wait_for(dialog, Awaits::Outcome { tag, pending });
             Ok(say_nothing(alloc))
         }
         Awaits::Nothing => Ok(say_nothing(alloc)),

@@ -1,11 +1,12 @@
 //! SEARCH: the messages that match, the texts that it needs, and what it asks of the store.
-ghost use Rattle.std.specs.Prelude.{◌≡◌, ◌+◌, ◌<◌, ◌++◌, ◌∷◌, [], Ok, min, length, map, flat_map, get_or, true, IfOk, OnErr, OnOk, if◌then◌else◌};
+ghost use Rattle.std.specs.Prelude.{◌≡◌, ◌+◌, ◌<◌, ◌++◌, ◌∷◌, [], Ok, min, length, flat_map, get_or, true, IfOk, OnErr, OnOk, if◌then◌else◌};
 ghost use Rattle.std.specs.Fmt.{decimal};
 ghost use Rattle.std.specs.List.{range_with_len};
 ghost use Rattle.shelf.specs.Notes.{size_of};
+ghost use Rattle.verb_core.specs.Live.{mail_of as mail_in};
 ghost use Rattle.verb_core.specs.Store.{IsValid};
 ghost use Rattle.imap_view.specs.Views.{is_by_uid};
-ghost use Rattle.imap_view.specs.Named.{untold};
+ghost use Rattle.imap_view.specs.Named.{rows_at as rows_in, untold};
 ghost use Rattle.search_verb.specs.Meets.{needed};
 ghost use Rattle.imap_session.specs.Searching as search_spec;
 ghost use Rattle.imap_session.specs.Words as words;
@@ -14,6 +15,7 @@ ghost use Rattle.imap_session.specs.Dialog as spec;
 
 use crate::commands::{say, submit, tell, wait_for_texts};
 use crate::dialog::{Dialog, Pending, Searching, Selected, Wanted};
+use crate::fetch::all_bodies;
 use crate::out::{Bodies0, ImapOut};
 use crate::words::{Answer, search_word};
 use box_store::Store;
@@ -24,8 +26,8 @@ use itoa::Buffer;
 use search_verb::{Candidate, Look, Search};
 use shelf::Shelf;
 use std::alloc::{AllocError, Global};
-use undo_base::{Copies, Key, Keys, MOST_FETCHED, Name, NoMemory, Places, Text, Texts, Uids};
-use verb_core::{Ask, Body, Entry};
+use undo_base::{Copies, Key, Keys, MOST_FETCHED, Name, NoMemory, Places, Text, Uids, User};
+use verb_core::{Ask, Entry};
 
 /// What a SEARCH asks of the store, and what is to be said of it then.
 struct Found {
@@ -82,6 +84,44 @@ fn last_uid(view: &View) -> u64
     }
 }
 
+/// A SEARCH that looks at no texts, with no list of the view's messages.
+fn bare_searching(
+    alloc: Global,
+    selected: &Selected,
+    key: &Search,
+    by_uid: bool,
+) -> Result<Searching, NoMemory>
+    ensures { IfOk result (λ q. q ≡ spec.bare_searching selected.now key.now by_uid) }
+{
+    let last_place = count_of(&selected.view)?;
+    let mailbox = selected.mailbox.copy(alloc)?;
+    let key = key.copy(alloc)?;
+    Ok(Searching {
+        mailbox,
+        key,
+        by_uid,
+        last_place,
+        last_uid: last_uid(&selected.view),
+        rows: Messages::new(alloc),
+    })
+}
+
+/// The messages of a view that are still there.
+fn all_rows(
+    alloc: Global,
+    store: &Store,
+    sizes: &Shelf,
+    user: Option<User>,
+    selected: &Selected,
+) -> Result<Messages, NoMemory>
+    requires { IsValid store.now.store }
+    ensures { IfOk result (λ rows. rows ≡ rows_in (size_of sizes.now.notes) (mail_in store.now.store user selected.now.mailbox) selected.now.view (search_spec.all_places selected.now.view)) }
+{
+    let entries = mail_of(store, user, &selected.mailbox);
+    let places = all_places(alloc, count_of(&selected.view)?)?;
+    rows_at(alloc, sizes, entries, &selected.view, &places)
+}
+
 /// A SEARCH of the selected mailbox.
 fn searching_of(
     alloc: Global,
@@ -95,20 +135,17 @@ fn searching_of(
     requires { IsValid store.now.store }
     ensures { IfOk result (λ q. q ≡ spec.searching store.now.store (size_of sizes.now.notes) dialog.now selected.now key.now by_uid) }
 {
-    let entries = mail_of(store, dialog.user, &selected.mailbox);
-    let last_place = count_of(&selected.view)?;
-    let places = all_places(alloc, last_place)?;
-    let rows = rows_at(alloc, sizes, entries, &selected.view, &places)?;
-    let mailbox = selected.mailbox.copy(alloc)?;
-    let key = key.copy(alloc)?;
-    Ok(Searching {
-        mailbox,
-        key,
-        by_uid,
-        last_place,
-        last_uid: last_uid(&selected.view),
-        rows,
-    })
+    let rows = all_rows(alloc, store, sizes, dialog.user, selected)?;
+    match bare_searching(alloc, selected, key, by_uid) {
+        Ok(mut searching) => {
+            searching.rows = rows;
+            Ok(searching)
+        }
+        Err(NoMemory) => {
+            drop(rows);
+            Err(NoMemory)
+        }
+    }
 }
 
 fn is_of_texts(look: Look) -> bool
@@ -498,28 +535,6 @@ fn matching_told(
     }
 }
 
-/// A SEARCH that looks at no texts, with no list of the view's messages.
-fn bare_searching(
-    alloc: Global,
-    selected: &Selected,
-    key: &Search,
-    by_uid: bool,
-) -> Result<Searching, NoMemory>
-    ensures { IfOk result (λ q. q ≡ spec.bare_searching selected.now key.now by_uid) }
-{
-    let last_place = count_of(&selected.view)?;
-    let mailbox = selected.mailbox.copy(alloc)?;
-    let key = key.copy(alloc)?;
-    Ok(Searching {
-        mailbox,
-        key,
-        by_uid,
-        last_place,
-        last_uid: last_uid(&selected.view),
-        rows: Messages::new(alloc),
-    })
-}
-
 /// What it asks of the store where it looks at no texts, and what is to be said then.
 fn found_bare(
     alloc: Global,
@@ -568,12 +583,6 @@ fn submit_found(dialog: &mut Dialog, found: Found) -> ImapOut
     submit(dialog, tag, asked, pending)
 }
 
-fn bodies_vec(alloc: Global, rows: &[Message]) -> Result<Vec<Body>, AllocError>
-    ensures { IfOk result (λ bodies. bodies.items ≡ map (λ m. m.entry.body) rows.now) }
-{
-    rows.iter().map(|row| row.entry.body).collect(alloc)
-}
-
 /// The bodies whose texts it needs.
 fn bodies_of(alloc: Global, searching: &Searching) -> Result<Bodies0, NoMemory>
     ensures { IfOk result (λ bodies. bodies ≡ search_spec.search_bodies searching.now) }
@@ -581,7 +590,7 @@ fn bodies_of(alloc: Global, searching: &Searching) -> Result<Bodies0, NoMemory>
     if !is_of_texts(searching.key.looks()) || is_too_large(searching) {
         return Ok(Bodies0::new(alloc));
     }
-    let bodies = bodies_vec(alloc, searching.rows.as_slice())?;
+    let bodies = all_bodies(alloc, searching.rows.as_slice())?;
     Ok(Bodies0::from_vec(bodies))
 }
 
@@ -604,12 +613,19 @@ fn begin_search(
     ensures err { OnErr result (dialog.new ≡ dialog.old) }
 {
     if bodies.is_empty() {
-        let none = Texts::new(alloc);
-        let found = found_with(alloc, tag, &searching, none.as_slice())?;
-        Ok(submit_found(dialog, found))
+        drop(bodies);
+        let found = found_with(alloc, tag, &searching, &[]);
+        drop(searching);
+        Ok(submit_found(dialog, found?))
     } else {
-        let tag = tag.copy(alloc)?;
-        Ok(read_first(dialog, tag, searching, bodies))
+        match tag.copy(alloc) {
+            Ok(tag) => Ok(read_first(dialog, tag, searching, bodies)),
+            Err(NoMemory) => {
+                drop(searching);
+                drop(bodies);
+                Err(NoMemory)
+            }
+        }
     }
 }
 
@@ -639,8 +655,13 @@ pub(crate) fn search(
         return Ok(submit_found(dialog, found));
     }
     let searching = searching_of(alloc, store, sizes, dialog, selected, key, by_uid)?;
-    let bodies = bodies_of(alloc, &searching)?;
-    begin_search(alloc, dialog, tag, searching, bodies)
+    match bodies_of(alloc, &searching) {
+        Ok(bodies) => begin_search(alloc, dialog, tag, searching, bodies),
+        Err(NoMemory) => {
+            drop(searching);
+            Err(NoMemory)
+        }
+    }
 }
 
 /// Goes on with the texts of a SEARCH. Where no memory is found they are still due.
@@ -655,7 +676,11 @@ pub(crate) fn search_texts(
     ensures err { OnErr result (dialog.new ≡ spec.awaiting_texts tag (Wanted.Search searching) dialog.old) }
 {
     match found_with(alloc, &tag, &searching, texts) {
-        Ok(found) => Ok(submit_found(dialog, found)),
+        Ok(found) => {
+            drop(tag);
+            drop(searching);
+            Ok(submit_found(dialog, found))
+        }
         Err(NoMemory) => {
             wait_for_texts(dialog, tag, Wanted::Search(searching));
             Err(NoMemory)

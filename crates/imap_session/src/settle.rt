@@ -4,13 +4,15 @@ ghost use Rattle.verb_core.specs.Boxes.{is_rising};
 ghost use Rattle.verb_core.specs.Store.{IsValid};
 ghost use Rattle.verb_core.specs.Live.{mail_of as mail_in};
 ghost use Rattle.imap_fetch.specs.Told.{fetch_lines as told_lines, store_lines as stored_lines};
+ghost use Rattle.imap_text.specs.Answers.{select_lines};
+ghost use Rattle.imap_view.specs.Facts.{facts_at};
 ghost use Rattle.imap_session.specs.declared.dialog.Awaits.TheVariants.{Nothing as AtRest};
 ghost use Rattle.imap_view.specs.Views as views;
 ghost use Rattle.imap_session.specs.Words as words;
 ghost use Rattle.imap_session.specs.Dialog.{took};
 ghost use Rattle.imap_session.specs.Dialog as spec;
 
-use crate::commands::{follow, say, say_nothing, tell};
+use crate::commands::{follow, hold, say, say_nothing, tell, wait_for};
 use crate::dialog::{Awaits, Dialog, Pending, Selected};
 use crate::lists::{counted, listed};
 use crate::out::ImapOut;
@@ -44,6 +46,25 @@ fn opened(
     })
 }
 
+/// What a mailbox that is selected tells of itself.
+fn told_opened(
+    alloc: Global,
+    store: &Store,
+    stamps: &Stamps,
+    user: Option<User>,
+    tag: &Name,
+    mailbox: &Name,
+    writes: bool,
+) -> Result<ImapOut, NoMemory>
+    requires valid { IsValid store.now.store }
+    requires rising { IsTrue (is_rising stamps.now) }
+    ensures { IfOk result (λ out. out ≡ ImapOut.Say (select_lines (facts_at store.now.store stamps.now user mailbox.now) writes ++ words.tagged tag.now (Answer.Opened writes))) }
+{
+    let facts = select_facts(store, stamps, user, mailbox)?;
+    let text = render_select(alloc, &facts, writes)?;
+    tell(text, tag, Answer::Opened { writes })
+}
+
 /// A mailbox is selected, and tells of itself.
 fn selects(
     alloc: Global,
@@ -62,12 +83,17 @@ fn selects(
         ≡ took out (record { user = user; selected = selected.new; awaits = AtRest })) }
     ensures err { OnErr result (selected.new ≡ selected.old) }
 {
-    let facts = select_facts(store, stamps, user, mailbox)?;
-    let text = render_select(alloc, &facts, writes)?;
     let now = opened(alloc, store, user, mailbox, writes)?;
-    let out = tell(text, tag, Answer::Opened { writes })?;
-    *selected = Some(now);
-    Ok(out)
+    match told_opened(alloc, store, stamps, user, tag, mailbox, writes) {
+        Ok(out) => {
+            hold(selected, Some(now));
+            Ok(out)
+        }
+        Err(NoMemory) => {
+            drop(now);
+            Err(NoMemory)
+        }
+    }
 }
 
 fn fetched(
@@ -136,7 +162,7 @@ fn leave(
 {
     let out = say(alloc, tag, Answer::Done(word))?;
     if is_lost(store, user, selected) {
-        *selected = None;
+        hold(selected, None);
     }
     Ok(out)
 }
@@ -148,7 +174,7 @@ fn close(alloc: Global, selected: &mut Option<Selected>, tag: &Name) -> Result<I
     ensures err { OnErr result (selected.new ≡ selected.old) }
 {
     let out = say(alloc, tag, Answer::Done(Word::Close))?;
-    *selected = None;
+    hold(selected, None);
     Ok(out)
 }
 
@@ -199,7 +225,7 @@ fn give_up(selected: &mut Option<Selected>, pending: &Pending)
         Pending::Select {
             mailbox: _,
             writes: _,
-        } => *selected = None,
+        } => hold(selected, None),
         Pending::Fetch {
             form: _,
             rows: _,
@@ -312,6 +338,6 @@ pub(crate) fn settle(
         pending,
         outcome,
     )?;
-    dialog.awaits = Awaits::Nothing;
+    wait_for(dialog, Awaits::Nothing);
     Ok(out)
 }

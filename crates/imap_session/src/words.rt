@@ -1,5 +1,5 @@
 //! What a client is told besides untagged data (RFC 3501, section 7.1).
-ghost use Rattle.std.specs.Prelude.{◌≡◌, ◌++◌, IfOk, OnOk};
+ghost use Rattle.std.specs.Prelude.{◌≡◌, ◌++◌, IfErr, IfOk, OnOk};
 ghost use Rattle.imap_session.specs.Words as spec;
 
 use std::alloc::Global;
@@ -158,23 +158,34 @@ fn push_done(out: &mut Text, word: Word) -> Result<(), NoMemory>
     out.extend(b" done.")
 }
 
+/// What stands behind the tag, or the word of the command that is done.
+fn fixed_text(answer: Answer) -> Result<&'static [u8], Word>
+    ensures text { IfOk result (λ text. text.now ≡ spec.answer_text answer) }
+    ensures word { IfErr result (λ word. spec.answer_text (Answer.Done word) ≡ spec.answer_text answer) }
+{
+    match answer {
+        Answer::Done(word) => Err(word),
+        Answer::Opened { writes } => Ok(opened_text(writes)),
+        Answer::UnknownCommand => Ok(b"BAD Unknown command."),
+        Answer::BadArguments => Ok(b"BAD Bad arguments."),
+        Answer::NotOffered => Ok(b"NO Not offered."),
+        Answer::WrongState => Ok(b"BAD Wrong state."),
+        Answer::LoginFailed => Ok(b"NO Login failed."),
+        Answer::ReadOnly => Ok(b"NO Read only."),
+        Answer::BadNumber => Ok(b"BAD Bad message number."),
+        Answer::BadCharset => Ok(b"NO [BADCHARSET] Charset not known."),
+        Answer::Refused(refused) => Ok(refusal_text(refused)),
+        Answer::DiskFault => Ok(b"NO Disk fault."),
+    }
+}
+
 /// What stands behind the tag.
 fn push_answer(out: &mut Text, answer: Answer) -> Result<(), NoMemory>
     ensures { OnOk result (out.new ≡ out.old ++ spec.answer_text answer) }
 {
-    match answer {
-        Answer::Done(word) => push_done(out, word),
-        Answer::Opened { writes } => out.extend(opened_text(writes)),
-        Answer::UnknownCommand => out.extend(b"BAD Unknown command."),
-        Answer::BadArguments => out.extend(b"BAD Bad arguments."),
-        Answer::NotOffered => out.extend(b"NO Not offered."),
-        Answer::WrongState => out.extend(b"BAD Wrong state."),
-        Answer::LoginFailed => out.extend(b"NO Login failed."),
-        Answer::ReadOnly => out.extend(b"NO Read only."),
-        Answer::BadNumber => out.extend(b"BAD Bad message number."),
-        Answer::BadCharset => out.extend(b"NO [BADCHARSET] Charset not known."),
-        Answer::Refused(refused) => out.extend(refusal_text(refused)),
-        Answer::DiskFault => out.extend(b"NO Disk fault."),
+    match fixed_text(answer) {
+        Ok(text) => out.extend(text),
+        Err(word) => push_done(out, word),
     }
 }
 
