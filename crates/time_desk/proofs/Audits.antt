@@ -1,18 +1,22 @@
 -- What an audit finds, and whether records are true.
 use Rattle.std.proofs.Common.{◌≡◌, ℕ, ◌+◌, ◌≤◌, Bool, true, false, ◌&&◌, cond, List, [], ◌∷◌, length, Option, Some, None, Result, Ok, Err, IfOk, IfErr, refl, sym, ap, subst, ◌∙◌}
-use Rattle.std.specs.Prelude.{option_and_then, if◌then◌else◌}
+use Rattle.std.specs.Prelude.{IsErrOf, OnOk, option_and_then, if◌then◌else◌}
 use Rattle.std.specs.Option.{option_map_or}
 use Rattle.verb_bytes.specs.declared.journal.JournalRecord.{JournalRecord}
 use Rattle.verb_bytes.specs.Spelling.{record_bytes}
 use Rattle.undo_outside.specs.Calls.{Rose}
 use Rattle.undo_outside.specs.Disk.{DiskTold}
 use Rattle.seal_log.specs.declared.fault.ReadFault.{ReadFault}
+use Rattle.seal_log.specs.declared.fault.ReadFault.TheVariants.{Disk as read_disk, NoMemory as read_no_memory}
 use Rattle.seal_log.specs.Causes.{ReadAtCause}
 use Rattle.seal_log.specs.Journal.{sealed}
 use Rattle.store_kept.specs.Kept.{Kept}
 use Rattle.desk_journal.specs.Lasting.{PastTold}
 use Rattle.desk_journal.specs.Records.{after_record, after_records, all_true, are_true, behind, front, is_true, opening_state, payloads_of, state}
+use Rattle.time_desk.specs.declared.fault.StartFault.{StartFault}
+use Rattle.time_desk.specs.declared.fault.StartFault.TheVariants.{Damaged, Disk, NoMemory, NotFormatted}
 use Rattle.time_desk.specs.Auditing.{false_record, first_false}
+use Rattle.time_desk.specs.Standing.{ReadCounts}
 
 -- one finds none that is not true exactly where each is
 abbrev Settles : Option ℕ → Bool → Type 0
@@ -75,3 +79,21 @@ cause_with_front told old begun mid new (Ok x) result count reliable still cause
 cause_with_front {D} {T} told old begun mid new (Err fault) result count reliable still cause read same =
     subst (λ (r : Result T ReadFault). ReadAtCause (told old.disk) (told new.disk) r) (sym same.0) (
     subst (λ (p : PastTold D). ReadAtCause {T = T} (told old.disk) (told p.disk) (Err fault)) (sym same.1) (joined (told old.disk) (told begun.disk) (told mid.disk) (Err fault) count reliable cause))
+
+-- ---- a record that was to be read
+
+ok_there : {T : Type 0} (old new : DiskTold) (fault : StartFault) (result : Result T ReadFault) → ReadCounts old new fault → (fault ≡ Disk → OnOk result ⊥) → OnOk result (new.failed_reads ≡ old.failed_reads)
+ok_there old new fault (Err e) counts not_disk = tt
+ok_there old new NotFormatted (Ok x) counts not_disk = counts
+ok_there old new (Damaged place) (Ok x) counts not_disk = counts
+ok_there old new Disk (Ok x) counts not_disk = absurd (not_disk refl)
+ok_there old new NoMemory (Ok x) counts not_disk = counts
+
+-- why an audit reads no record there
+pub cause_there : {T : Type 0} (old new : DiskTold) (fault : StartFault) (result : Result T ReadFault) → ReadCounts old new fault → (fault ≡ Disk → OnOk result ⊥)
+    → (IsErrOf result read_disk → fault ≡ Disk) → (IsErrOf result read_no_memory → fault ≡ NoMemory) → ReadAtCause old new result
+cause_there old new fault result counts ok disk no_memory = record {
+  ok = ok_there old new fault result counts ok;
+  disk = λ is. subst (ReadCounts old new) (disk is) counts;
+  no_memory = λ is. subst (ReadCounts old new) (no_memory is) counts;
+}

@@ -29,7 +29,7 @@ ghost use Rattle.desk_journal.specs.Records.{after_records, can_follow as follow
 ghost use Rattle.desk_journal.specs.Stored.{AreNoted, KeepsMarks, MarksLie, NotesTexts, TextsHeld, TextsStored};
 ghost use Rattle.desk_journal.specs.Telling.{IsOnlyRead, IsPastRead};
 ghost use Rattle.time_desk.specs.Auditing.{Judges, JudgesItem, LeadsUnread, LeavesUnread, SpellsNoRecord, false_or_behind, false_record, first_false as first_of};
-ghost use Rattle.time_desk.specs.Standing.{IsFormed};
+ghost use Rattle.time_desk.specs.Standing.{IsFormed, SpellsNothing};
 
 use crate::front::begin_at;
 use crate::heads::SHORT;
@@ -46,6 +46,24 @@ use verb_bytes::{JournalRecord, item_text_from};
 use verb_core::{Item, Shown};
 
 // ---- one record
+
+/// What a fault tells of the record that was to be read: there is none, or the read failed.
+fn none_there(fault: StartFault) -> Result<Option<JournalRecord>, ReadFault>
+    ensures spelled { IfOk result (λ found. IfSome found HasSpelling) }
+    ensures long { (n : ℕ) → IfOk result (λ found. IfSome found (λ what. n ≡ length (record_bytes what))) }
+    ensures none { IfOk result (λ found. found ≡ None) }
+    ensures nothing { (payload : List ℕ) (gate : ℕ) → SpellsNothing payload gate fault → IfOk result (λ found. SpellsNoRecord payload) }
+    ensures ok { fault ≡ StartFault.Disk → OnOk result ⊥ }
+    ensures disk { IsErrOf result ReadFault.Disk → fault ≡ StartFault.Disk }
+    ensures no_memory { IsErrOf result ReadFault.NoMemory → fault ≡ StartFault.NoMemory }
+{
+    match fault {
+        StartFault::Damaged { .. } => Ok(None),
+        StartFault::NotFormatted => Ok(None),
+        StartFault::Disk => Err(ReadFault::Disk),
+        StartFault::NoMemory => Err(ReadFault::NoMemory),
+    }
+}
 
 /// The record at a place, where its payload spells one.
 fn record_there<D: Disk>(
@@ -66,10 +84,7 @@ fn record_there<D: Disk>(
     one_spelling();
     match record_at(alloc, past, place) {
         Ok(what) => Ok(Some(what)),
-        Err(StartFault::Damaged { .. }) => Ok(None),
-        Err(StartFault::NotFormatted) => Ok(None),
-        Err(StartFault::Disk) => Err(ReadFault::Disk),
-        Err(StartFault::NoMemory) => Err(ReadFault::NoMemory),
+        Err(fault) => none_there(fault),
     }
 }
 
