@@ -137,6 +137,7 @@ pub fn ask_desk<S: Speaks, D: Disk + Drop>(
     let before = reply.gone.len();
     if let Err(NoMemory) = note(alloc, &mut reply.gone, desk.stamps().as_slice(), by, &ask) {
         reply.gone.keep_first(before);
+        drop(ask);
         return Err(SubmitFault::Refused(Refused::NoMemory));
     }
     let outcome = desk.submit(alloc, at, by, ask);

@@ -125,6 +125,7 @@ impl Serves for ImapSession {
     fn next_unit(alloc: Global, stream: &mut Pieces) -> Result<Option<Next>, NoMemory> {
         let next = stream.next(alloc)?;
         if is_not_yet(&next) {
+            drop(next);
             return Ok(None);
         }
         Ok(Some(next))

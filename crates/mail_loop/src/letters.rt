@@ -136,7 +136,7 @@ fn with_letter(letters: Vec<Letter>, place: usize, letter: Letter) -> Vec<Letter
     ensures { result.items ≡ insert letters.items place letter }
 {
     let mut letters = letters;
-    let _room_is_there = letters.insert(place, letter);
+    drop(letters.insert(place, letter));
     letters
 }
 
@@ -165,11 +165,13 @@ pub fn letters_of(
         closes,
     };
     if aftermath.is_quiet() {
+        drop(aftermath);
         let mut letters = room;
         letters.push_reserved(letter);
         return letters;
     }
     let letters = letters_to_others(room, connections, conn, &aftermath);
+    drop(aftermath);
     let others = letters.as_slice();
     let place = first_behind(own, others).unwrap_or(others.len());
     with_letter(letters, place, letter)

@@ -210,12 +210,17 @@ fn hear_at<R: Threads + Sync, D: Disk + Drop, G: Gate>(
     let room = room_for_letters(alloc, connections)?;
     let in_use = users_for(alloc, connections, conn);
     let turned = match connections.get_mut(&conn) {
-        None => return Ok(nothing(alloc)),
+        None => {
+            drop(in_use);
+            drop(room);
+            return Ok(nothing(alloc));
+        }
         Some(connection) => {
             let occasion = Occasion { conn, at };
             hear(rt, alloc, desk, connection, occasion, gate, &in_use, bytes)
         }
     };
+    drop(in_use);
     if turned.closes {
         let gone = connections.remove(&conn);
         drop(gone);
@@ -308,9 +313,14 @@ fn serve_event<R: Threads + Sync, L: Link, D: Disk + Drop, G: Gate>(
     match deliver_all(connections, link, answer.letters.as_slice()) {
         Ok(()) => {
             keep_up(alloc, desk);
-            Ok(answer.stops)
+            let stops = answer.stops;
+            drop(answer);
+            Ok(stops)
         }
-        Err(NoMemory) => Err(NoMemory),
+        Err(NoMemory) => {
+            drop(answer);
+            Err(NoMemory)
+        }
     }
 }
 
@@ -344,24 +354,39 @@ fn serve_each<R: Threads + Sync, L: Link, D: Disk + Drop, G: Gate>(
     for _ in 0..turns {
         let event = match link.next() {
             Ok(event) => event,
-            Err(Fault::Failed) => return Err(ServeFault::Link),
-            Err(Fault::NoMemory) => return Err(ServeFault::NoMemory),
+            Err(Fault::Failed) => {
+                drop(connections);
+                return Err(ServeFault::Link);
+            }
+            Err(Fault::NoMemory) => {
+                drop(connections);
+                return Err(ServeFault::NoMemory);
+            }
         };
         if let What::End = &event.what {
+            drop(event);
+            drop(connections);
             return end_serving(alloc, desk);
         }
         let sent = serve_event(rt, alloc, desk, &mut connections, link, gate, &event);
+        drop(event);
         if desk.closed() {
+            drop(connections);
             return Err(ServeFault::Disk);
         }
         let stops = match sent {
             Ok(stops) => stops,
-            Err(NoMemory) => return Err(ServeFault::NoMemory),
+            Err(NoMemory) => {
+                drop(connections);
+                return Err(ServeFault::NoMemory);
+            }
         };
         if stops {
+            drop(connections);
             return Ok(());
         }
     }
+    drop(connections);
     Err(ServeFault::Turns)
 }
 

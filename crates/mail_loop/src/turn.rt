@@ -197,11 +197,16 @@ pub fn read_out_of_memory<S: Speaks>(alloc: Global, session: &mut S, reply: &mut
     ensures home { (house : TheHouse) → is_home S.speech house session.old ≡ true → is_home S.speech house session.new ≡ true }
     ensures read { (kept : Kept) → ReadsOutOfMemory S.speech kept session.old reply.old session.new reply.new }
 {
-    match session.take_texts(alloc, &Err(ReadFault::NoMemory)) {
+    let out_of_memory = Err(ReadFault::NoMemory);
+    match session.take_texts(alloc, &out_of_memory) {
         Ok(out) => {
-            let _none = tell(reply, out);
+            drop(tell(reply, out));
+            drop(out_of_memory);
         }
-        Err(NoMemory) => close(session, reply),
+        Err(NoMemory) => {
+            close(session, reply);
+            drop(out_of_memory);
+        }
     }
 }
 
@@ -228,8 +233,14 @@ fn read<S: Speaks, D: Disk + Drop>(
     seals_join::<D>();
     let texts = desk.texts(alloc, bodies.as_slice());
     match session.take_texts(alloc, &texts) {
-        Ok(out) => go_on(alloc, desk, session, at, out, reply),
-        Err(NoMemory) => read_out_of_memory(alloc, session, reply),
+        Ok(out) => {
+            go_on(alloc, desk, session, at, out, reply);
+            drop(texts);
+        }
+        Err(NoMemory) => {
+            read_out_of_memory(alloc, session, reply);
+            drop(texts);
+        }
     }
 }
 
@@ -257,7 +268,10 @@ pub fn follow<S: Speaks, D: Disk + Drop>(
 {
     seals_join::<D>();
     match out {
-        Out::Read(bodies) => read(alloc, desk, session, at, &bodies, reply),
+        Out::Read(bodies) => {
+            read(alloc, desk, session, at, &bodies, reply);
+            drop(bodies);
+        }
         other => go_on(alloc, desk, session, at, other, reply),
     }
 }

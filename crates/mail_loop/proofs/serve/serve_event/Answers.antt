@@ -47,8 +47,8 @@ returns-in-Ok-clause-leads g c =
     (kept_sealed disk c.seals_join.ensures.then old mid new made.unsealed (unkept_by k mid.kept) made.counts (unwritten_by k) (nat_le 1024 mid.kept.marks.since) c.requires.sealed a.1 keeps.seals keeps.closed)
     (λ ds. went_on disk c.seals_join.ensures.nothing s (record { event = c.args.event.now; hindrances = record { unfed = b; turns = hs; stage = stage; deliveries = ds; keeping = k } }) k old mid new refl c.requires.sealed a.1 kept_is keeps)
 
-pub returns-clause-leads : goal.returns-clause-leads
-returns-clause-leads g c =
+pub returns-in-Err-clause-leads : goal.returns-in-Err-clause-leads
+returns-in-Err-clause-leads g c =
     let told = g.L.Link.told in
     let (b, hs, stage, a) = c.in_ok-answer.ensures.answers in
     let disk = g.D.Disk.told in
@@ -64,5 +64,5 @@ pub returns-in-Ok-clause-home : goal.returns-in-Ok-clause-home
 returns-in-Ok-clause-home g c =
     subst (λ (house : House). AreHome house c.deliver_all.new.connections.entries) (sym c.keep_up.ensures.home) (c.deliver_all.ensures.home c.answer_event.new.desk.kept.house c.in_ok-answer.ensures.home)
 
-pub returns-clause-home : goal.returns-clause-home
-returns-clause-home g c = c.deliver_all.ensures.home c.answer_event.new.desk.kept.house c.in_ok-answer.ensures.home
+pub returns-in-Err-clause-home : goal.returns-in-Err-clause-home
+returns-in-Err-clause-home g c = c.deliver_all.ensures.home c.answer_event.new.desk.kept.house c.in_ok-answer.ensures.home

@@ -38,18 +38,18 @@ returns-in-Ok-clause-turn g c =
     c.requires.reading c.requires.stays texts.ensures.still texts.ensures.cause texts.ensures.due texts.ensures.texts texts.ensures.count texts.ensures.memory
     c.in-Ok.ensures.ok c.in-Ok.ensures.next c.go_on.ensures.still c.go_on.ensures.turn)
 
-pub returns-clause-house : goal.returns-clause-house
-returns-clause-house g c = ap (λ (k : Kept). k.house) c.texts-texts.ensures.still.kept
+pub returns-in-Err-clause-house : goal.returns-in-Err-clause-house
+returns-in-Err-clause-house g c = ap (λ (k : Kept). k.house) c.texts-texts.ensures.still.kept
 
-pub returns-clause-home : goal.returns-clause-home
-returns-clause-home g c =
+pub returns-in-Err-clause-home : goal.returns-in-Err-clause-home
+returns-in-Err-clause-home g c =
     let speech = g.S.Speaks.speech in
     let house = c.texts-texts.new.self.kept.house in
     let home = subst (λ (k : Kept). is_home speech k.house c.args.session.now ≡ true) (sym c.texts-texts.ensures.still.kept) c.requires.home in
     c.read_out_of_memory.ensures.home house (c.take_texts.ensures.home house home)
 
-pub returns-clause-turn : goal.returns-clause-turn
-returns-clause-turn g c =
+pub returns-in-Err-clause-turn : goal.returns-in-Err-clause-turn
+returns-in-Err-clause-turn g c =
     let speech = g.S.Speaks.speech in
     let told = g.D.Disk.told in
     let join = c.seals_join.ensures in
