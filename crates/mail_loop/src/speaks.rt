@@ -19,6 +19,7 @@ use pop_session::PopSession;
 use seal_log::ReadFault;
 use smtp_session::SmtpSession;
 use std::alloc::Global;
+use std::mem;
 use undo_base::{NoMemory, Text, Texts, User};
 use verb_core::{Item, Stamps, SubmitFault};
 
@@ -75,7 +76,7 @@ impl Speaks for SmtpSession {
     }
 
     fn end(&mut self) {
-        *self = SmtpSession::new();
+        drop(mem::replace(self, SmtpSession::new()));
     }
 
     fn take_texts(
@@ -108,7 +109,7 @@ impl Speaks for ImapSession {
     }
 
     fn end(&mut self) {
-        *self = ImapSession::new();
+        drop(mem::replace(self, ImapSession::new()));
     }
 
     fn take_texts(
@@ -162,7 +163,7 @@ impl Speaks for PopSession {
     }
 
     fn end(&mut self) {
-        *self = PopSession::new();
+        drop(mem::replace(self, PopSession::new()));
     }
 
     fn take_texts(
