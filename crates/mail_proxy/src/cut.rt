@@ -56,7 +56,11 @@ fn cut_desk<D: Disk + Drop, W: Sink>(
     seals_join::<D>();
     cuts_open();
     match desk.cut_parts(alloc, point) {
-        Ok(parts) => write_parts(alloc, &parts, desk, out),
+        Ok(parts) => {
+            let status = write_parts(alloc, &parts, desk, out);
+            drop(parts);
+            status
+        }
         Err(fault) => show(alloc, &uncut(alloc, fault), out),
     }
 }

@@ -49,7 +49,9 @@ fn grow_events<R: Threads + Sync, G: Gate>(
     match playing_desk(alloc) {
         Ok(desk) => {
             let mut desk = desk;
-            serve_generated(rt, alloc, &mut desk, rounds, events, gate)
+            let plan = serve_generated(rt, alloc, &mut desk, rounds, events, gate);
+            drop(desk.into_disk());
+            plan
         }
         Err(fault) => unmade(alloc, fault),
     }

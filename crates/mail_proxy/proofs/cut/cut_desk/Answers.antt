@@ -8,12 +8,12 @@ returns-in-Ok-clause-cuts g c =
     let out = g.W.Sink.told in
     let old = c.args.desk.now in
     let mid = c.cut_parts.new.self in
-    let new = c.write_parts.new.desk in
+    let new = c.write_parts-status.new.desk in
     let still = c.cut_parts.ensures.still in
-    let (payloads, are, wrote) = c.write_parts.ensures.wrote in
+    let (payloads, are, wrote) = c.write_parts-status.ensures.wrote in
     let is = is_cut told c.cuts_open.ensures.written old mid c.args.point c.in-Ok.parts payloads c.stands.ensures.timeline still (c.seals_join.ensures.still old mid still).texts
     c.in-Ok.ensures.parts c.in-Ok.ensures.spelled are in
-    cut_written told old mid new c.args.point payloads c.write_parts.result (out c.args.out.now) (out c.write_parts.new.out) is c.in-Ok.ensures.ok wrote
+    cut_written told old mid new c.args.point payloads c.write_parts-status.result (out c.args.out.now) (out c.write_parts-status.new.out) is c.in-Ok.ensures.ok wrote
 
 pub returns-in-Err-clause-cuts : goal.returns-in-Err-clause-cuts
 returns-in-Err-clause-cuts g c =
@@ -24,7 +24,7 @@ returns-in-Err-clause-cuts g c =
 pub uncut-requires : goal.uncut-requires
 uncut-requires g c = is_uncut g.D.Disk.told c.args.desk.now c.cut_parts.new.self c.args.point c.in-Err.fault c.in-Err.ensures.why
 
-pub write_parts-requires-clause-held : goal.write_parts-requires-clause-held
-write_parts-requires-clause-held g c =
+pub write_parts-status-requires-clause-held : goal.write_parts-status-requires-clause-held
+write_parts-status-requires-clause-held g c =
     let holds = has_text_kept c.cut_parts.new.self.kept in
     all_held holds c.in-Ok.parts c.in-Ok.ensures.bodies (texts_held holds c.in-Ok.parts.kept c.in-Ok.ensures.texts)

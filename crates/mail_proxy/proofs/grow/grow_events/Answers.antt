@@ -8,10 +8,10 @@ use Rattle.mail_proxy.proofs.grow.grow_events.Goals as goal
 pub returns-in-Ok : goal.returns-in-Ok
 returns-in-Ok g c =
     let desk = c.in-Ok.desk in
-    let plan = c.serve_generated.result in
-    grows_over _ c.runs_keep_mail.ensures c.args.rounds c.args.events desk c.serve_generated.new.desk plan.status (output_of plan) c.requires c.in-Ok.ensures.kept c.in-Ok.ensures.reliable
+    let plan = c.serve_generated-plan.result in
+    grows_over _ c.runs_keep_mail.ensures c.args.rounds c.args.events desk c.serve_generated-plan.new.desk plan.status (output_of plan) c.requires c.in-Ok.ensures.kept c.in-Ok.ensures.reliable
     c.in-Ok.ensures.holds
-    c.serve_generated.ensures
+    c.serve_generated-plan.ensures
 
 pub returns-in-Err : goal.returns-in-Err
 returns-in-Err g c =

@@ -13,5 +13,5 @@ returns-in-Err g c =
 
 pub returns-in-Ok : goal.returns-in-Ok
 returns-in-Ok g c =
-    let plan = c.serve_script.result in
-    plays_over _ c.runs_keep_mail.ensures c.args.events c.in-Ok.desk c.serve_script.new.desk plan.status (output_of plan) c.in-Ok.ensures.kept c.in-Ok.ensures.reliable c.in-Ok.ensures.holds c.serve_script.ensures
+    let plan = c.serve_script-plan.result in
+    plays_over _ c.runs_keep_mail.ensures c.args.events c.in-Ok.desk c.serve_script-plan.new.desk plan.status (output_of plan) c.in-Ok.ensures.kept c.in-Ok.ensures.reliable c.in-Ok.ensures.holds c.serve_script-plan.ensures
