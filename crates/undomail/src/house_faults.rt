@@ -1,6 +1,7 @@
 //! What is wrong with a configuration that was refused, in one line. The rules are those of docs/FORMATS.md. What is a
 //! configuration is house_text's to decide: nothing but these words rests on what is said here, and no password is told.
 use std::alloc::Global;
+use toml::de::Error;
 use toml::{Table, Value};
 
 /// The keys that a configuration may have.
@@ -24,22 +25,38 @@ fn at_word<'a>(word: &'a str, what: &'static str) -> Option<Misfit<'a>> {
 
 /// Says on standard error where a text is no configuration, and why.
 pub(crate) fn tell_fault<R: Eprint>(rt: &R, alloc: Global, bytes: &[u8]) {
-    let _told = match toml::table_from_slice(alloc, bytes) {
-        Ok(table) => match misfit_of(&table) {
-            Some(found) => {
-                let (line, what) = (line_of(bytes, found.word, found.before), found.what);
-                let word = found.word;
-                eprintln!(rt; "undomail: the configuration, line {line}, at {word}: {what}")
-            }
-            None => eprintln!(rt; "undomail: the configuration does not fit docs/FORMATS.md"),
-        },
-        Err(error) => {
-            let place = error.span().map_or(0, |span| span.start);
-            let (line, column) = place_in(bytes, place);
-            let what = error.message();
-            eprintln!(rt; "undomail: the configuration, line {line}, column {column}: {what}")
+    match toml::table_from_slice(alloc, bytes) {
+        Ok(table) => {
+            tell_misfit(rt, bytes, misfit_of(&table));
+            drop(table);
         }
+        Err(error) => {
+            tell_error(rt, bytes, &error);
+            drop(error);
+        }
+    }
+}
+
+/// Says what of a document is not as it must be.
+fn tell_misfit<R: Eprint>(rt: &R, bytes: &[u8], misfit: Option<Misfit>) {
+    let _told = match misfit {
+        Some(Misfit { word, before, what }) => {
+            let line = line_of(bytes, word, before);
+            eprintln!(rt; "undomail: the configuration, line {line}, at {word}: {what}")
+        }
+        None => eprintln!(rt; "undomail: the configuration does not fit docs/FORMATS.md"),
     };
+}
+
+/// Says why a text is no document.
+fn tell_error<R: Eprint>(rt: &R, bytes: &[u8], error: &Error) {
+    let place = match error.span() {
+        Some(span) => span.start,
+        None => 0,
+    };
+    let (line, column) = place_in(bytes, place);
+    let what = error.message();
+    let _told = eprintln!(rt; "undomail: the configuration, line {line}, column {column}: {what}");
 }
 
 /// The line and the column of a place, both from 1; a column counts bytes.
@@ -76,41 +93,88 @@ fn line_of(bytes: &[u8], word: &str, before: usize) -> usize {
 
 /// The first part of a document that is not as it must be.
 fn misfit_of<'a>(table: &'a Table) -> Option<Misfit<'a>> {
-    strange_key(table)
-        .or_else(|| in_host(table))
-        .or_else(|| in_domains(table))
-        .or_else(|| in_users(table))
-        .or_else(|| in_postmaster(table))
-        .or_else(|| in_first(table))
-        .or_else(|| in_aliases(table))
+    if let Some(found) = strange_key(table) {
+        return Some(found);
+    }
+    if let Some(found) = in_host(table) {
+        return Some(found);
+    }
+    if let Some(found) = in_domains(table) {
+        return Some(found);
+    }
+    if let Some(found) = in_users(table) {
+        return Some(found);
+    }
+    if let Some(found) = in_postmaster(table) {
+        return Some(found);
+    }
+    if let Some(found) = in_first(table) {
+        return Some(found);
+    }
+    in_aliases(table)
+}
+
+/// The text of a key.
+fn text_in<'a>(table: &'a Table, key: &str) -> Option<&'a str> {
+    table.get(key)?.as_str()
+}
+
+/// The list of a key.
+fn list_in<'a>(table: &'a Table, key: &str) -> Option<&'a Vec<Value>> {
+    table.get(key)?.as_array()
 }
 
 fn strange_key<'a>(table: &'a Table) -> Option<Misfit<'a>> {
-    let (key, _) = table.iter().find(|(key, _)| !KEYS.contains(&key.as_str()))?;
-    at_word(key.as_str(), "there is no such key")
+    for (key, _) in table {
+        if !KEYS.contains(&key.as_str()) {
+            return at_word(key.as_str(), "there is no such key");
+        }
+    }
+    None
 }
 
-fn is_host(value: &Value) -> bool {
-    value.as_str().is_some_and(|text| {
-        1 <= text.len()
-            && text.len() <= 200
-            && text.as_bytes().iter().all(|b| 33 <= *b && *b <= 126)
-    })
+/// Whether a text has so many bytes at most, one at least, and each is one from `least` to 126.
+fn is_plain(text: &str, most: usize, least: u8) -> bool {
+    if text.is_empty() || text.len() > most {
+        return false;
+    }
+    for byte in text.as_bytes() {
+        if *byte < least || *byte > 126 {
+            return false;
+        }
+    }
+    true
 }
 
-fn in_host<'a>(table: &'a Table) -> Option<Misfit<'a>> {
-    match table.get("host") {
-        Some(value) if is_host(value) => None,
-        _ => at_word(
-            "host",
-            "it must be a text of 1 to 200 visible characters of ASCII",
-        ),
+fn is_host(text: Option<&str>) -> bool {
+    match text {
+        Some(text) => is_plain(text, 200, 33),
+        None => false,
     }
 }
 
+fn in_host<'a>(table: &'a Table) -> Option<Misfit<'a>> {
+    if is_host(text_in(table, "host")) {
+        return None;
+    }
+    at_word(
+        "host",
+        "it must be a text of 1 to 200 visible characters of ASCII",
+    )
+}
+
+fn are_hosts(values: &[Value]) -> bool {
+    for value in values {
+        if !is_host(value.as_str()) {
+            return false;
+        }
+    }
+    !values.is_empty()
+}
+
 fn in_domains<'a>(table: &'a Table) -> Option<Misfit<'a>> {
-    match table.get("domains").and_then(|value| value.as_array()) {
-        Some(values) if !values.is_empty() && values.iter().all(is_host) => None,
+    match list_in(table, "domains") {
+        Some(values) if are_hosts(values.as_slice()) => None,
         _ => at_word(
             "domains",
             "they must be a list of one text at least, each of 1 to 200 visible characters of ASCII",
@@ -119,7 +183,7 @@ fn in_domains<'a>(table: &'a Table) -> Option<Misfit<'a>> {
 }
 
 fn in_users<'a>(table: &'a Table) -> Option<Misfit<'a>> {
-    let Some(users) = table.get("user").and_then(|value| value.as_array()) else {
+    let Some(users) = list_in(table, "user") else {
         return at_word("user", "there must be 1 to 200 tables [[user]]");
     };
     if users.is_empty() || users.len() > 200 {
@@ -142,15 +206,16 @@ fn in_user(house: &Table, user: &Value) -> Option<&'static str> {
     let Some(table) = user.as_table() else {
         return Some("a user is a table");
     };
-    if name_of(user).is_some_and(|name| count_named(house, name) > 1) {
+    let name = text_in(table, "name");
+    if count_of(house, name) > 1 {
         return Some("another user has this name");
     }
-    if !table.get("name").is_some_and(is_user_name) {
+    if !is_user_name(name) {
         return Some(
             "a name must be 1 to 64 of a to z, 0 to 9, '.', '-' and '_', and not postmaster",
         );
     }
-    if !table.get("password").is_some_and(is_password) {
+    if !is_password(text_in(table, "password")) {
         return Some("a password must be 1 to 200 characters of ASCII that print");
     }
     if table.len() != 2 {
@@ -161,44 +226,68 @@ fn in_user(house: &Table, user: &Value) -> Option<&'static str> {
 
 fn is_name(text: &str) -> bool {
     let letters = b"abcdefghijklmnopqrstuvwxyz0123456789.-_";
-    1 <= text.len()
-        && text.len() <= 64
-        && text != "postmaster"
-        && text.as_bytes().iter().all(|b| letters.contains(b))
+    if text.is_empty() || text.len() > 64 || text == "postmaster" {
+        return false;
+    }
+    for byte in text.as_bytes() {
+        if !letters.contains(byte) {
+            return false;
+        }
+    }
+    true
 }
 
-fn is_user_name(value: &Value) -> bool {
-    value.as_str().is_some_and(is_name)
+fn is_user_name(text: Option<&str>) -> bool {
+    match text {
+        Some(text) => is_name(text),
+        None => false,
+    }
 }
 
-fn is_password(value: &Value) -> bool {
-    value.as_str().is_some_and(|text| {
-        1 <= text.len()
-            && text.len() <= 200
-            && text.as_bytes().iter().all(|b| 32 <= *b && *b <= 126)
-    })
+fn is_password(text: Option<&str>) -> bool {
+    match text {
+        Some(text) => is_plain(text, 200, 32),
+        None => false,
+    }
 }
 
 /// How many users have a name.
 fn count_named(table: &Table, name: &str) -> usize {
-    match table.get("user").and_then(|value| value.as_array()) {
-        Some(users) => users
-            .iter()
-            .filter(|user| name_of(user) == Some(name))
-            .count(),
+    let Some(users) = list_in(table, "user") else {
+        return 0;
+    };
+    let mut count = 0usize;
+    for user in users {
+        if is_named(user, name) {
+            count = count.saturating_add(1);
+        }
+    }
+    count
+}
+
+/// The same, and none where there is no name.
+fn count_of(table: &Table, name: Option<&str>) -> usize {
+    match name {
+        Some(name) => count_named(table, name),
         None => 0,
     }
 }
 
-fn name_of(user: &Value) -> Option<&str> {
-    user.as_table()?.get("name")?.as_str()
+fn is_named(user: &Value, name: &str) -> bool {
+    let Some(table) = user.as_table() else {
+        return false;
+    };
+    match text_in(table, "name") {
+        Some(other) => other == name,
+        None => false,
+    }
 }
 
 fn in_postmaster<'a>(table: &'a Table) -> Option<Misfit<'a>> {
-    match table.get("postmaster").and_then(|value| value.as_str()) {
-        Some(name) if count_named(table, name) > 0 => None,
-        _ => at_word("postmaster", "it must be the name of one of the users"),
+    if count_of(table, text_in(table, "postmaster")) > 0 {
+        return None;
     }
+    at_word("postmaster", "it must be the name of one of the users")
 }
 
 fn in_first<'a>(table: &'a Table) -> Option<Misfit<'a>> {
@@ -219,23 +308,33 @@ fn in_aliases<'a>(table: &'a Table) -> Option<Misfit<'a>> {
             None => return at_word("aliases", "they must be a table"),
         },
     };
-    let (local, _) = aliases
-        .iter()
-        .find(|(local, users)| !is_alias(table, local.as_str(), users))?;
-    at_word(
-        local.as_str(),
-        "an alias must be a name that no user has, with a list of one user's name at least",
-    )
+    for (local, users) in aliases {
+        if !is_alias(table, local.as_str(), users) {
+            return at_word(
+                local.as_str(),
+                "an alias must be a name that no user has, with a list of one user's name at least",
+            );
+        }
+    }
+    None
 }
 
 fn is_alias(table: &Table, local: &str, users: &Value) -> bool {
-    is_name(local)
-        && count_named(table, local) == 0
-        && users.as_array().is_some_and(|users| !users.is_empty()
-            && users.iter().all(|user| is_known(table, user)))
+    if !is_name(local) || count_named(table, local) > 0 {
+        return false;
+    }
+    match users.as_array() {
+        Some(users) => are_known(table, users.as_slice()),
+        None => false,
+    }
 }
 
-fn is_known(table: &Table, user: &Value) -> bool {
-    user.as_str()
-        .is_some_and(|name| count_named(table, name) > 0)
+/// Whether they are users' names, one at least.
+fn are_known(table: &Table, users: &[Value]) -> bool {
+    for user in users {
+        if count_of(table, user.as_str()) == 0 {
+            return false;
+        }
+    }
+    !users.is_empty()
 }
