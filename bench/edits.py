@@ -46,7 +46,8 @@ def verdict(edit):
 
 def note(edit, day, what):
     rest = [line for line in open(edit).read().split('\n') if line and not line.startswith('refused:')]
-    with open(edit, 'w') as out: out.write('\n'.join([*rest, f'refused: {day} {sum_of(texts_of(edit))} by {what}']) + '\n')
+    text = '\n'.join([*rest, f'refused: {day} {sum_of(texts_of(edit))} by {what}']) + '\n'
+    with open(edit, 'w') as out: out.write(text)
 
 def of_crate(name, kind='more-edits'): return sorted(glob.glob(f'{TOP}/crates/{name}/{kind}/*.edit'))
 
